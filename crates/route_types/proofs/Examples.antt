@@ -1,0 +1,28 @@
+-- Worked examples that the checker computes.
+use Rattle.std.proofs.Common.{◌≡◌, refl, List, [], ◌∷◌, ◌++◌, ℕ, Bool, true, false, map}
+use Rattle.std.specs.Prelude.{Some, None, codes}
+use Rattle.route_types.specs.Text.{lines_at}
+use Rattle.route_types.specs.Words.{number_in, prefix_in, parts_at, address_in}
+use Rattle.route_types.specs.Range.{in_range}
+use Rattle.route_types.specs.Address.{prefix_of}
+use Rattle.route_types.specs.declared.address.Family.TheVariants.{V4}
+
+two_lines : map (λ l. l.bytes) (lines_at 0 (codes "a" ++ (13 ∷ 10 ∷ codes "bc" ++ (13 ∷ [])))) ≡ codes "a" ∷ (codes "bc" ++ (13 ∷ [])) ∷ []
+unfolding lines_at
+two_lines = refl
+
+number : number_in 32 (codes "24") ≡ Some 24
+unfolding number_in
+number = refl
+
+too_large : number_in 32 (codes "33") ≡ None
+unfolding number_in
+too_large = refl
+
+leading_zero : number_in 32 (codes "08") ≡ None
+unfolding number_in
+leading_zero = refl
+
+ten_slash_eight : prefix_in (codes "10.1.0.0/8") ≡ Some (record { address = record { family = V4; bits = 167772160 }; length = 8 })
+unfolding prefix_in number_in parts_at address_in
+ten_slash_eight = refl

@@ -1,0 +1,24 @@
+//! The values that every layer speaks of: addresses, prefixes, communities, routes, changes and
+//! outcomes, and for now also statements, the forms of words and prefix ranges.
+//! It stands on std alone. Its definitions are in `specs/`, a file a notion.
+#![tactic(auto)]
+
+mod address;
+mod change;
+mod community;
+mod fault;
+mod memory;
+mod range;
+mod route;
+mod row;
+mod statement;
+
+pub use address::{Address, Family, Prefix};
+pub use change::Change;
+pub use community::{CommChange, Community, Rect};
+pub use fault::{Cause, CheckFault, RouteFault};
+pub use memory::Memory;
+pub use range::PrefixRange;
+pub use route::{NextHop, Origin, Outcome, Route};
+pub use row::Row;
+pub use statement::{Ender, Span, Statement, Word};

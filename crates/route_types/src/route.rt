@@ -1,0 +1,111 @@
+ghost use Rattle.std.specs.Prelude.{◌≡◌};
+
+use crate::address::{Address, Prefix};
+use crate::community::Community;
+use crate::row::Row;
+use std::marker::Model;
+
+/// The ORIGIN attribute (RFC 4271, section 5.1.1).
+#[derive(Clone, Copy, Debug, PartialEq, Eq)]
+pub enum Origin {
+    Igp,
+    Egp,
+    Incomplete,
+}
+
+/// The next hop (RFC 4271, section 5.1.3): an address, or the router's own one.
+#[derive(Clone, Copy, Debug, PartialEq, Eq)]
+pub enum NextHop {
+    At(Address),
+    Own,
+}
+
+/// A BGP route with every attribute present. The path lists AS numbers (RFC 6793), the nearest
+/// first; the communities are in rising order and without repeats.
+#[derive(Debug, Drop)]
+pub struct Route {
+    pub(crate) prefix: Prefix,
+    pub(crate) next_hop: NextHop,
+    pub(crate) path: Row<u32>,
+    pub(crate) origin: Origin,
+    pub(crate) local_preference: u32,
+    pub(crate) med: u32,
+    pub(crate) weight: u16,
+    pub(crate) communities: Row<Community>,
+}
+
+impl Model for Route {
+    ghost use Rattle.route_types.specs.Route.{RouteParts};
+    ghost use Rattle.route_types.specs.Community.{IsAscending};
+
+    ghost Value = { RouteParts };
+
+    ghost view = { λ r. record { prefix = r.prefix; next_hop = r.next_hop; path = r.path; origin = r.origin; local_preference = r.local_preference; med = r.med; weight = r.weight; communities = r.communities } };
+
+    ghost invariant = { λ r. IsAscending r.communities };
+}
+
+impl Route {
+    /// The destination.
+    pub fn prefix(&self) -> &Prefix
+        ensures { result.now ≡ self.now.prefix }
+    {
+        &self.prefix
+    }
+
+    /// The next hop.
+    pub fn next_hop(&self) -> &NextHop
+        ensures { result.now ≡ self.now.next_hop }
+    {
+        &self.next_hop
+    }
+
+    /// The AS path, the nearest number first.
+    pub fn path(&self) -> &[u32]
+        ensures { result.now ≡ self.now.path }
+    {
+        self.path.as_slice()
+    }
+
+    /// The origin.
+    pub fn origin(&self) -> &Origin
+        ensures { result.now ≡ self.now.origin }
+    {
+        &self.origin
+    }
+
+    /// The local preference, 0 to 2^32 - 1.
+    pub fn local_preference(&self) -> u32
+        ensures { result ≡ self.now.local_preference }
+    {
+        self.local_preference
+    }
+
+    /// The MED, 0 to 2^32 - 1.
+    pub fn med(&self) -> u32
+        ensures { result ≡ self.now.med }
+    {
+        self.med
+    }
+
+    /// The weight, 0 to 65535.
+    pub fn weight(&self) -> u16
+        ensures { result ≡ self.now.weight }
+    {
+        self.weight
+    }
+
+    /// The communities, in rising order and without repeats.
+    pub fn communities(&self) -> &[Community]
+        ensures { result.now ≡ self.now.communities }
+    {
+        self.communities.as_slice()
+    }
+}
+
+/// What a policy answers on a route.
+#[derive(Debug, Drop)]
+pub enum Outcome {
+    Reject,
+    Accept(Route),
+}
