@@ -1,0 +1,6 @@
+pub mod Cut
+pub mod Forms
+pub mod Spelling
+pub mod Tree
+pub mod Profile
+pub mod Meaning

@@ -1,0 +1,12 @@
+//! Reads Cisco IOS route-maps and prefix lists as a tree, and checks that a policy of it lies in the
+//! profile. It stands on `route_types`. Its definitions are in `specs/`: the cut of a text into
+//! statements, the forms, the tree, the profile and the meaning of a policy.
+#![tactic(auto)]
+
+mod checked;
+mod item;
+mod tree;
+
+pub use checked::CheckedIos;
+pub use item::{IosForm, IosItem, ItemSort, MapHeader, OtherItem, PrefixEntry};
+pub use tree::IosTree;
