@@ -1,1 +1,3 @@
 mod Examples
+pub mod Numbers
+pub mod Words
