@@ -1,3 +1,4 @@
 mod Examples
 pub mod Numbers
-pub mod Words
+pub mod Spelled
+pub mod Walk

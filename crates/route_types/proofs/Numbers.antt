@@ -1,6 +1,6 @@
 -- A number's text is found as that number, and what is found is spelled so.
 use Rattle.std.proofs.Common.{◌≡◌, refl, sym, ap, subst, ◌∙◌, ℕ, zero, suc, ◌+◌, ◌-◌, ◌*◌, ◌^◌, ◌<◌, ◌≤◌, Bool, true, false, cond, ◌&&◌, nat_le, eqb, List, [], ◌∷◌, ◌++◌, length, get_or, Option, Some, None, arith, rules, inl, inr, ◌⊎◌}
-use Rattle.std.specs.Prelude.{decimal, ◌==◌}
+use Rattle.std.specs.Prelude.{decimal, ◌==◌, IfSome}
 use Rattle.std.specs.List.{list_any}
 use Rattle.std.proofs.lemmas.Str.Parse.{IsNumeralModel, numerals_by_fold}
 use Rattle.std.proofs.lemmas.Fmt.{digits_decimal, digits_value-decimal, decimal_digit, decimal_nonempty, first_decimal, decimal-digits_value}
@@ -124,6 +124,14 @@ found_exactly : (most : ℕ) (word : List ℕ) (o : Option ℕ) → most < 2 ^ 6
 found_exactly most word (Some n) small e = number_in_found most word n small e
 found_exactly most word None small e = number_in_none most word small e
 
+within_test : (b : Bool) (most n : ℕ) → nat_le n most ≡ b → IfSome (when b n) (λ m. m ≤ most)
+within_test true most n e = leb-true n most e
+within_test false most n e = tt
+
+within_found : (most : ℕ) (o : Option ℕ) → IfSome (o >>= λ m. when (nat_le m most) m) (λ n. n ≤ most)
+within_found most (Some n) = within_test (nat_le n most) most n refl
+within_found most None = tt
+
 -- the function finds exactly the numbers that are spelled
 pub number_in_exactly : (most : ℕ) (word : List ℕ) → most < 2 ^ 64 → FindsExactly (IsNumber most word) (number_in most word)
 number_in_exactly most word small = found_exactly most word (number_in most word) small refl
@@ -139,3 +147,8 @@ no_such_byte b (c ∷ cs) other h =
 
 pub decimal_no_such_byte : (b n : ℕ) → is_digit b ≡ false → n < 2 ^ 64 → list_any (λ c. c == b) (decimal n) ≡ false
 decimal_no_such_byte b n other small = no_such_byte b (decimal n) other (decimal_plain n small).digits
+
+-- what is found is at most the greatest value
+pub number_in_within : (most : ℕ) (word : List ℕ) → IfSome (number_in most word) (λ n. n ≤ most)
+unfolding number_in
+number_in_within most word = within_found most (digits_value word)

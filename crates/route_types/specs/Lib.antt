@@ -5,3 +5,4 @@ pub mod Change
 pub mod Range
 pub mod Text
 pub mod Words
+pub mod Walk
