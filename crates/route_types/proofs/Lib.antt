@@ -2,3 +2,5 @@ mod Examples
 pub mod Numbers
 pub mod Spelled
 pub mod Walk
+pub mod Parts
+pub mod Printed

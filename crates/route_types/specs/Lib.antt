@@ -6,3 +6,4 @@ pub mod Range
 pub mod Text
 pub mod Words
 pub mod Walk
+pub mod Print
