@@ -4,3 +4,4 @@ pub mod Spelled
 pub mod Walk
 pub mod Parts
 pub mod Printed
+pub mod Bits

@@ -1,6 +1,7 @@
 -- A printed prefix reads as itself.
 use Rattle.std.proofs.Common.{◌≡◌, refl, sym, ap, subst, ◌∙◌, ℕ, ◌+◌, ◌-◌, ◌*◌, ◌/◌, ◌%◌, ◌^◌, ◌<◌, ◌≤◌, List, ◌∷◌, ◌++◌, Some, arith}
 use Rattle.std.specs.Prelude.{decimal}
+use Rattle.std.proofs.Math.Nat.{mul-mod_left}
 use Rattle.std.proofs.lemmas.Nat.{div-add-mod'}
 use Rattle.route_types.specs.Address.{PrefixParts, IsMasked, width, prefix_of, masked_address}
 use Rattle.route_types.specs.Words.{Octets, dotted, address_of, prefix_in}
@@ -8,7 +9,7 @@ use Rattle.route_types.specs.Print.{octets_of, prefix_text}
 use Rattle.route_types.specs.declared.address.Address.{Address}
 use Rattle.route_types.specs.declared.address.Family.{Family}
 use Rattle.route_types.specs.declared.address.Family.TheVariants.{V4}
-use Rattle.route_types.proofs.Spelled.{AreOctets, prefix_in_spelled}
+use Rattle.route_types.proofs.Spelled.{AreOctets, prefix_in_spelled, prefix_in_found}
 
 ap2 : {A B C : Type 0} (f : A → B → C) {a x : A} {b y : B} → a ≡ x → b ≡ y → f a b ≡ f x y
 ap2 f {a} {x} {b} {y} p q = ap (λ z. f z b) p ∙ ap (λ z. f x z) q
@@ -46,3 +47,31 @@ unfolding prefix_text
 prefix_in_printed p v4 h =
     let s = small p v4 h in
     prefix_in_spelled (octets_of p.address) p.length (octets_within p.address s.0) s.1 ∙ ap (λ (q : PrefixParts). Some q) (octets_prefix p v4 h)
+
+-- a prefix that a word spells is an IPv4 one, and its host bits are 0
+pub record IsPlain (p : PrefixParts) : Type 0 where
+  pub family : p.address.family ≡ V4
+  pub masked : IsMasked p.address p.length
+
+-- the prefix of an IPv4 address and a length
+pub prefix_of_plain : (a : Address) (n : ℕ) → a.family ≡ V4 → a.bits < 2 ^ 32 → n ≤ 32 → IsPlain (prefix_of a n)
+prefix_of_plain a n v4 small within =
+    let block = 2 ^ (width a.family - n) in
+    record {
+      family = v4;
+      masked = record {
+        fits = subst (λ (f : Family). a.bits / block * block < 2 ^ width f) (sym v4) (omega (arith, div-add-mod' a.bits block));
+        within = subst (λ (f : Family). n ≤ width f) (sym v4) within;
+        masked = mul-mod_left (a.bits / block) block;
+      };
+    }
+
+address_fits : (o : Octets) → AreOctets o → (address_of o).bits < 2 ^ 32
+address_fits o h = omega (arith, h.first, h.second, h.third, h.fourth)
+
+pub prefix_in_plain : (word : List ℕ) (p : PrefixParts) → prefix_in word ≡ Some p → IsPlain p
+prefix_in_plain word p e =
+    let f = prefix_in_found word p e in
+    let a = f.spells_address in
+    let octets : AreOctets a.octets = record { first = a.first; second = a.second; third = a.third; fourth = a.fourth } in
+    subst IsPlain (sym f.value) (prefix_of_plain f.address f.length (ap (λ (x : Address). x.family) a.value) (subst (λ (x : Address). x.bits < 2 ^ 32) (sym a.value) (address_fits a.octets octets)) f.within)

@@ -23,4 +23,4 @@ pub use range::PrefixRange;
 pub use route::{NextHop, Origin, Outcome, Route};
 pub use row::Row;
 pub use statement::{Ender, Span, Statement, Word};
-pub use words::{read_address, read_number};
+pub use words::{read_address, read_number, read_prefix};

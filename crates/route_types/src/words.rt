@@ -1,8 +1,8 @@
 ghost use Rattle.std.specs.Prelude.{◌≡◌, ◌≤◌, ◌==◌, IfSome, Some, None, option_map, position};
-ghost use Rattle.route_types.specs.Words.{FindsExactly, IsNumber, number_in, IsAddress, address_in, address_of, parts_at};
+ghost use Rattle.route_types.specs.Words.{FindsExactly, IsNumber, number_in, IsAddress, address_in, address_of, parts_at, IsPrefix, prefix_in};
 ghost use Rattle.route_types.specs.Walk.{with_digit, number_after, starts_plainly};
 
-use crate::address::{Address, Family};
+use crate::address::{Address, Family, Prefix};
 
 fn with_digit(most: u64, value: u64, byte: u8) -> Option<u64>
     ensures { result ≡ with_digit most value byte }
@@ -84,6 +84,15 @@ fn octet(word: &[u8]) -> Option<u8>
     Some(number as u8)
 }
 
+#[tactic(auto, using(crate::proofs::Numbers::number_in_within))]
+fn length_in(word: &[u8]) -> Option<u8>
+    ensures value { result ≡ number_in 32 word.now }
+    ensures within { IfSome result (λ n. n ≤ 32) }
+{
+    let number = read_number(word, 32)?;
+    Some(number as u8)
+}
+
 fn address(first: u8, second: u8, third: u8, fourth: u8) -> Address
     ensures { result ≡ address_of (record { first = first; second = second; third = third; fourth = fourth }) }
 {
@@ -117,4 +126,24 @@ pub fn read_address(word: &[u8]) -> Option<Address>
     ensures exact { result ≡ address_in word.now }
 {
     address_in(word)
+}
+
+#[tactic(auto, unfolding(crate::specs::Words::prefix_in))]
+fn prefix_in(word: &[u8]) -> Option<Prefix>
+    ensures { result ≡ prefix_in word.now }
+{
+    let (front, behind) = parts(word, b'/')?;
+    let address = read_address(front)?;
+    let length = length_in(behind)?;
+    Some(Prefix::new(address, length))
+}
+
+/// The IPv4 prefix that a word spells: an address, a slash and a length up to 32. Host bits are
+/// set to 0. `None` where the word spells no prefix. It takes no memory.
+#[tactic(auto, using(crate::proofs::Spelled::prefix_in_exactly))]
+pub fn read_prefix(word: &[u8]) -> Option<Prefix>
+    ensures found { FindsExactly (IsPrefix word.now) result }
+    ensures exact { result ≡ prefix_in word.now }
+{
+    prefix_in(word)
 }
