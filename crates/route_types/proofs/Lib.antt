@@ -1,1 +1,7 @@
 mod Examples
+pub mod Numbers
+pub mod Spelled
+pub mod Walk
+pub mod Parts
+pub mod Printed
+pub mod Bits

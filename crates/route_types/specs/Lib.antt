@@ -7,3 +7,5 @@ pub mod Text
 pub mod Words
 pub mod Names
 pub mod Bounds
+pub mod Walk
+pub mod Print

@@ -12,6 +12,7 @@ mod range;
 mod route;
 mod row;
 mod statement;
+mod words;
 
 pub use address::{Address, Family, Prefix};
 pub use change::Change;
@@ -22,3 +23,4 @@ pub use range::PrefixRange;
 pub use route::{NextHop, Origin, Outcome, Route};
 pub use row::Row;
 pub use statement::{Ender, Span, Statement, Word};
+pub use words::{read_address, read_number, read_prefix};
