@@ -1,6 +1,7 @@
 -- Worked examples that the checker computes.
 use Rattle.std.proofs.Common.{◌≡◌, refl, List, [], ◌∷◌, ◌++◌, ℕ, true, false}
 use Rattle.std.specs.Prelude.{Some, None, codes, map, option_map, Option}
+use Rattle.std.specs.Fmt.{digits}
 use Rattle.route_types.specs.Text.{lines_at}
 use Rattle.route_types.specs.Words.{number_in, prefix_in, parts_at, address_in, ◌>>=◌}
 use Rattle.route_types.specs.Route.{RouteParts}
@@ -13,6 +14,9 @@ use Rattle.rpl_reader.specs.Words.{words_at}
 use Rattle.rpl_reader.specs.Cut.{rpl_cut, cut_from}
 use Rattle.rpl_reader.specs.Forms.{element_in, prefix_set_in, policy_header_in, if_in, set_in, single_word_in}
 use Rattle.rpl_reader.specs.Tree.{rpl_tree, items_of, is_whole, header_form, statement_form, forms}
+use Rattle.route_types.specs.Range.{RangeParts}
+use Rattle.route_types.specs.Print.{prefix_text}
+use Rattle.rpl_reader.specs.Layout.{Step, policy_text, steps_text, actions_text, preferences_text, sets_text, set_text, elements_text, element_text, policy_forms, steps_forms, actions_forms, sets_forms, set_forms}
 use Rattle.rpl_reader.specs.Meaning.{run, rpl_meaning}
 use Rattle.rpl_reader.specs.declared.item.RplForm.{RplForm}
 use Rattle.rpl_reader.specs.declared.item.RplForm.TheVariants.{PrefixSet, Element, RoutePolicy, If, EndIf, SetLocalPreference, Done, Drop, End, Other}
@@ -55,3 +59,19 @@ accepts = refl
 rejects : rpl_meaning sample_forms (codes "P") (route 167772160 25) ≡ Reject
 unfolding rpl_meaning run
 rejects = refl
+
+-- the layout of the sample
+abbrev sample_sets : List (List RangeParts)
+sample_sets = (record { prefix = record { address = record { family = V4; bits = 167772160 }; length = 8 }; least = 8; most = 24 } ∷ []) ∷ []
+
+abbrev sample_steps : List Step
+sample_steps = record { guard = Some 0; preferences = 200 ∷ []; accept = true } ∷ []
+
+written : policy_text (codes "P") sample_sets sample_steps ≡ text (codes "prefix-set P-p1" ∷ codes "  10.0.0.0/8 le 24" ∷ codes "end-set" ∷ codes "!" ∷ codes "route-policy P"
+    ∷ codes "  if destination in P-p1 then" ∷ codes "    set local-preference 200" ∷ codes "    done" ∷ codes "  endif" ∷ codes "  drop" ∷ codes "end-policy" ∷ codes "!" ∷ [])
+unfolding digits policy_text steps_text actions_text preferences_text sets_text set_text elements_text element_text prefix_text
+written = refl
+
+read_again : option_map forms (rpl_tree (policy_text (codes "P") sample_sets sample_steps)) ≡ Some (policy_forms (codes "P") sample_sets sample_steps)
+unfolding digits policy_text steps_text actions_text preferences_text sets_text set_text elements_text element_text prefix_text policy_forms steps_forms actions_forms sets_forms set_forms rpl_tree items_of is_whole header_form statement_form rpl_cut cut_from words_at lines_at element_in prefix_set_in policy_header_in if_in set_in single_word_in number_in prefix_in parts_at address_in
+read_again = refl

@@ -4,3 +4,5 @@ pub mod Forms
 pub mod Tree
 pub mod Profile
 pub mod Meaning
+pub mod Layout
+pub mod Written
