@@ -5,13 +5,17 @@
 #![tactic(auto)]
 
 mod faults;
+mod file_shelf;
 mod memory_shelf;
 mod memory_sink;
 mod shelf;
 mod sink;
+mod write_sink;
 
 pub use faults::{FetchFault, Memory, PutFault};
+pub use file_shelf::FileShelf;
 pub use memory_shelf::MemoryShelf;
 pub use memory_sink::MemorySink;
 pub use shelf::Shelf;
-pub use sink::Sink;
+pub use sink::{Sink, put_line, put_lines};
+pub use write_sink::WriteSink;

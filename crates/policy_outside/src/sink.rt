@@ -1,5 +1,6 @@
 // Where pieces of output are put.
-ghost use Rattle.policy_outside.specs.Sink.{SinkView, Puts};
+ghost use Rattle.std.specs.Prelude.{◌<◌, ◌≤◌, length, map};
+ghost use Rattle.policy_outside.specs.Sink.{SinkView, Puts, joined};
 
 use crate::faults::PutFault;
 
@@ -14,4 +15,50 @@ pub trait Sink {
     /// shortages rose in this call. After either, a prefix of the piece has been appended.
     fn put(&mut self, piece: &[u8]) -> Result<(), PutFault>
         ensures { Puts (seen self.old) (seen self.new) piece.now result };
+}
+
+/// Puts the pieces one after the other, up to the first that is not taken whole. Takes no memory of its own.
+///
+/// The answer and what it says are those of one `put` of the joined pieces.
+pub fn put_line<E: Sink>(sink: &mut E, pieces: &[&[u8]]) -> Result<(), PutFault>
+    ensures { Puts (E.seen sink.old) (E.seen sink.new) (joined (map (λ piece. piece.now) pieces.now)) result }
+{
+    let mut rest = pieces;
+    while let [piece, others @ ..] = rest {
+        match sink.put(piece) {
+            Ok(()) => rest = others,
+            Err(fault) => return Err(fault),
+        }
+    }
+    Ok(())
+}
+
+/// Puts a text by one `put` for each line, with the line's LF; what stands behind the last LF is put too.
+/// Takes no memory of its own.
+///
+/// The answer and what it says are those of one `put` of the whole text.
+pub fn put_lines<O: Sink>(sink: &mut O, text: &[u8]) -> Result<(), PutFault>
+    ensures { Puts (O.seen sink.old) (O.seen sink.new) text.now result }
+{
+    let mut rest = text;
+    while !rest.is_empty() {
+        let (line, others) = rest.split_at(first_line_length(rest));
+        match sink.put(line) {
+            Ok(()) => rest = others,
+            Err(fault) => return Err(fault),
+        }
+    }
+    Ok(())
+}
+
+/// How many bytes the first line of a text has, its LF included.
+fn first_line_length(text: &[u8]) -> usize
+    requires { 0 < length text.now }
+    ensures some { 0 < result }
+    ensures within { result ≤ length text.now }
+{
+    match text.iter().position(|byte| *byte == b'\n') {
+        Some(place) => place + 1,
+        None => text.len(),
+    }
 }
