@@ -1,8 +1,9 @@
 -- Laws of put: calls one after the other are one call of the joined pieces.
-use Rattle.std.proofs.Common.{◌≡◌, ◌≤◌, ℕ, List, [], ◌∷◌, ◌++◌, Option, Some, None, Result, Ok, Err, refl, ap, sym, ◌∙◌, subst, append_assoc, append-nil, arith}
+use Rattle.std.proofs.Common.{◌≡◌, ◌≤◌, ◌<◌, ◌-◌, ℕ, suc, Bor, length, map, take, drop, get_or, List, [], ◌∷◌, ◌++◌, Option, Some, None, Result, Ok, Err, refl, ap, sym, ◌∙◌, subst, append_assoc, append-nil, arith}
+use Rattle.std.proofs.lemmas.List.{take_all}
 use Rattle.policy_outside.specs.declared.faults.PutFault.{PutFault}
 use Rattle.policy_outside.specs.Counts.{Rose}
-use Rattle.policy_outside.specs.Sink.{SinkView, Puts, PutsWhole, PutsPrefix, appended}
+use Rattle.policy_outside.specs.Sink.{SinkView, Puts, PutsWhole, PutsPrefix, appended, joined}
 
 -- bytes with two pieces behind them have the joined piece behind them
 pub appended-appended : (bytes : Option (List ℕ)) (first second : List ℕ) → appended (appended bytes first) second ≡ appended bytes (first ++ second)
@@ -96,3 +97,18 @@ pub leads_to_end : (start here : SinkView) (rest whole : List ℕ) → LeadsOn s
 leads_to_end start here rest whole leads empty =
     let P : List ℕ → Type 0 = λ piece. Puts here here piece (Ok tt) in
     leads.on here (Ok tt) (subst P (sym empty) (puts_nothing here))
+
+-- pieces behind references, joined
+abbrev pub joined_refs : List (Bor (List ℕ)) → List ℕ
+joined_refs pieces = joined (map (λ piece. piece.now) pieces)
+
+-- the first of some pieces and the others, joined
+pub joined_refs_split : (pieces : List (Bor (List ℕ))) (past : Bor (List ℕ)) → 1 ≤ length pieces → (get_or pieces 0 past).now ++ joined_refs (take (length pieces - 1) (drop 1 pieces)) ≡ joined_refs pieces
+joined_refs_split [] past some = absurd (omega arith)
+joined_refs_split (piece ∷ pieces) past some =
+    ap (λ others. piece.now ++ joined_refs others) (take_all (suc (length pieces) - 1) pieces (omega arith))
+
+-- no pieces make the empty one
+pub joined_refs_none : (pieces : List (Bor (List ℕ))) → length pieces < 1 → joined_refs pieces ≡ []
+joined_refs_none [] none = refl
+joined_refs_none (piece ∷ pieces) some = absurd (omega arith)
