@@ -1,7 +1,9 @@
 -- What contracts see of a shelf in memory.
-use Rattle.std.specs.Prelude.{◌≡◌, ◌≢◌, ℕ, List, Some}
-use Rattle.policy_outside.specs.Shelf.{ShelfView}
-use Rattle.policy_outside.specs.Texts.{Texts, text_at}
+use Rattle.std.specs.Prelude.{◌≡◌, ◌≢◌, ◌⊎◌, ℕ, ◌≤◌, List, length, true, false, Some, None, Ok, Err}
+use Rattle.policy_outside.specs.declared.faults.FetchFault.TheVariants.{Failed, TooLong, Memory}
+use Rattle.policy_outside.specs.Counts.{raised, next_fails}
+use Rattle.policy_outside.specs.Shelf.{ShelfView, Fetched}
+use Rattle.policy_outside.specs.Texts.{Texts, text_at, IsLonger}
 
 -- the texts under their names, the numbers of the calls that are to fail, how many calls there were, and the faults
 pub record ShelfInMemory : Type 0 where
@@ -20,3 +22,33 @@ pub record Adds (before now : ShelfInMemory) (name text : List ℕ) : Type 0 whe
   pub held : text_at now.texts name ≡ Some text
   pub others : (other : List ℕ) → other ≢ name → text_at now.texts other ≡ text_at before.texts other
   pub same : now ≡ record before { texts = now.texts }
+
+-- a copy of the text under a name: Failed exactly where none is held there, TooLong exactly where it is longer than most, but for want of memory
+abbrev pub CopiesHeld : Texts → List ℕ → ℕ → Fetched → Type 0
+CopiesHeld texts name most (Ok copy) = (text_at texts name ≡ Some copy.items) × (length copy.items ≤ most)
+CopiesHeld texts name most (Err Failed) = text_at texts name ≡ None
+CopiesHeld texts name most (Err TooLong) = IsLonger texts name most
+CopiesHeld texts name most (Err Memory) = Unit {0}
+
+-- what the next call answers: Failed exactly where it is to fail or no text is held under the name, TooLong exactly where it is not to fail and the text is longer than most, but for want of memory
+abbrev pub AnswersNext : ShelfInMemory → List ℕ → ℕ → Fetched → Type 0
+AnswersNext shelf name most (Ok copy) =
+    (next_fails shelf.failing shelf.calls ≡ false) × (text_at shelf.texts name ≡ Some copy.items) × (length copy.items ≤ most)
+AnswersNext shelf name most (Err Failed) =
+    (next_fails shelf.failing shelf.calls ≡ true) ⊎ (text_at shelf.texts name ≡ None)
+AnswersNext shelf name most (Err TooLong) =
+    (next_fails shelf.failing shelf.calls ≡ false) × IsLonger shelf.texts name most
+AnswersNext shelf name most (Err Memory) = Unit {0}
+
+-- the shelf after a call with this answer: every call is counted, and a fault is counted and its name kept
+abbrev pub after_fetch : ShelfInMemory → List ℕ → Fetched → ShelfInMemory
+after_fetch shelf name (Ok _) = record shelf { calls = raised shelf.calls }
+after_fetch shelf name (Err Failed) =
+    record shelf { calls = raised shelf.calls; faults = raised shelf.faults; last_fault = name }
+after_fetch shelf name (Err TooLong) = record shelf { calls = raised shelf.calls }
+after_fetch shelf name (Err Memory) = record shelf { calls = raised shelf.calls }
+
+-- one call of fetch over memory
+pub record FetchesInMemory (before now : ShelfInMemory) (name : List ℕ) (most : ℕ) (answer : Fetched) : Type 0 where
+  pub answers : AnswersNext before name most answer
+  pub leaves : now ≡ after_fetch before name answer

@@ -1,5 +1,8 @@
 -- What contracts see of a sink in memory.
-use Rattle.std.specs.Prelude.{ℕ, List, Some}
+use Rattle.std.specs.Prelude.{◌≡◌, ℕ, List, ◌++◌, true, false, Some, Result, Ok, Err}
+use Rattle.policy_outside.specs.declared.faults.PutFault.{PutFault}
+use Rattle.policy_outside.specs.declared.faults.PutFault.TheVariants.{Failed, Memory}
+use Rattle.policy_outside.specs.Counts.{raised, next_fails}
 use Rattle.policy_outside.specs.Sink.{SinkView}
 
 -- the bytes so far, the numbers of the calls that are to fail, how many calls there were, and the two counts
@@ -13,3 +16,20 @@ pub record SinkInMemory : Type 0 where
 -- such a sink tells its bytes
 abbrev pub sink_view : SinkInMemory → SinkView
 sink_view sink = record { bytes = Some sink.bytes; faults = sink.faults; shortages = sink.shortages }
+
+-- what the next call answers: Failed exactly where it is to fail, but for want of memory
+abbrev pub AnswersNext : SinkInMemory → Result (Unit {0}) PutFault → Type 0
+AnswersNext sink (Ok _) = next_fails sink.failing sink.calls ≡ false
+AnswersNext sink (Err Failed) = next_fails sink.failing sink.calls ≡ true
+AnswersNext sink (Err Memory) = next_fails sink.failing sink.calls ≡ false
+
+-- the sink after a call with this answer: every call is counted, Ok appends the piece, and each other answer appends nothing and raises its count
+abbrev pub after_put : SinkInMemory → List ℕ → Result (Unit {0}) PutFault → SinkInMemory
+after_put sink piece (Ok _) = record sink { bytes = sink.bytes ++ piece; calls = raised sink.calls }
+after_put sink piece (Err Failed) = record sink { calls = raised sink.calls; faults = raised sink.faults }
+after_put sink piece (Err Memory) = record sink { calls = raised sink.calls; shortages = raised sink.shortages }
+
+-- one call of put over memory
+pub record PutsInMemory (before now : SinkInMemory) (piece : List ℕ) (answer : Result (Unit {0}) PutFault) : Type 0 where
+  pub answers : AnswersNext before answer
+  pub leaves : now ≡ after_put before piece answer

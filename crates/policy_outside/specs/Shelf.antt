@@ -1,10 +1,10 @@
 -- What a shelf means, and one call of fetch.
-use Rattle.std.specs.Prelude.{◌≡◌, ℕ, ◌≤◌, List, length, Option, Some, None, Result, Ok, Err, Vec, IfOk, IfSome}
+use Rattle.std.specs.Prelude.{◌≡◌, ℕ, ◌≤◌, List, length, Option, Result, Ok, Err, Vec, IfOk, IfSome}
 use Rattle.std.specs.declared.alloc.Global.{Global}
 use Rattle.policy_outside.specs.declared.faults.FetchFault.{FetchFault}
 use Rattle.policy_outside.specs.declared.faults.FetchFault.TheVariants.{Failed, TooLong, Memory}
 use Rattle.policy_outside.specs.Counts.{Rose}
-use Rattle.policy_outside.specs.Texts.{Texts, text_at, IsTold, IsLonger}
+use Rattle.policy_outside.specs.Texts.{Texts, IsTold, IsLonger}
 
 -- the texts under their names, where the shelf tells them; how many fetches were at fault; the name of the last of these, empty at first
 pub record ShelfView : Type 0 where
@@ -50,10 +50,3 @@ pub record Fetches (before now : ShelfView) (name : List ℕ) (most : ℕ) (answ
   pub within : IfOk answer (λ text. length text.items ≤ most)
   pub told : IfOk answer (λ text. IsTold before.texts name text.items)
   pub too_long : IfSome before.texts (λ texts. TooLongExactly texts name most answer)
-
--- a copy of the text under a name: Failed exactly where none is held there, TooLong exactly where it is longer than most, but for want of memory
-abbrev pub CopiesHeld : Texts → List ℕ → ℕ → Fetched → Type 0
-CopiesHeld texts name most (Ok copy) = (text_at texts name ≡ Some copy.items) × (length copy.items ≤ most)
-CopiesHeld texts name most (Err Failed) = text_at texts name ≡ None
-CopiesHeld texts name most (Err TooLong) = IsLonger texts name most
-CopiesHeld texts name most (Err Memory) = Unit {0}

@@ -4,12 +4,15 @@
 //! `put` may do, `Texts` what the text under a name is, and `Counts` when a count has risen.
 #![tactic(auto)]
 
+mod counts;
 mod faults;
 mod file_shelf;
 mod memory_shelf;
 mod memory_sink;
 mod shelf;
 mod sink;
+#[cfg(test)]
+mod tests;
 mod write_sink;
 
 pub use faults::{FetchFault, Memory, PutFault};

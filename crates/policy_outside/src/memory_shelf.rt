@@ -1,9 +1,10 @@
 // A shelf over a list in memory, whose calls can be made to fail.
 ghost use Rattle.std.specs.Prelude.{◌≡◌, ◌++◌, ◌∷◌, [], OnOk, OnErr, IfOk, option_copied};
 ghost use Rattle.policy_outside.specs.Texts.{text_at};
-ghost use Rattle.policy_outside.specs.MemoryShelf.{shelf_view, Adds};
-ghost use Rattle.policy_outside.specs.Shelf.{CopiesHeld};
+ghost use Rattle.policy_outside.specs.MemoryShelf.{shelf_view, Adds, AnswersNext, FetchesInMemory};
+ghost use Rattle.policy_outside.specs.Shelf.{Fetches};
 
+use crate::counts::is_next_to_fail;
 use crate::faults::{FetchFault, Memory};
 use crate::shelf::Shelf;
 use std::alloc::{AllocError, Global};
@@ -78,6 +79,22 @@ impl MemoryShelf {
         self.failing.push(call)?;
         Ok(())
     }
+
+    /// What the next call of `fetch` answers.
+    fn next_answer(&self, alloc: Global, name: &[u8], most: u64) -> Result<Vec<u8>, FetchFault>
+        ensures { AnswersNext self.now name.now most result }
+    {
+        if is_next_to_fail(self.failing.as_slice(), self.calls) {
+            return Err(FetchFault::Failed);
+        }
+        let Some(text) = find_text(self.texts.as_slice(), name) else {
+            return Err(FetchFault::Failed);
+        };
+        if text.len() as u64 > most {
+            return Err(FetchFault::TooLong);
+        }
+        Ok(Vec::from_slice(alloc, text)?)
+    }
 }
 
 /// A copy of both.
@@ -92,17 +109,15 @@ fn held_text(alloc: Global, name: &[u8], text: &[u8]) -> Result<HeldText, AllocE
 impl Shelf for MemoryShelf {
     ghost seen = { shelf_view };
 
-    fn fetch(&mut self, alloc: Global, name: &str, most: u64) -> Result<Vec<u8>, FetchFault> {
+    fn fetch(&mut self, alloc: Global, name: &str, most: u64) -> Result<Vec<u8>, FetchFault>
+        ensures fetches { Fetches (shelf_view self.old) (shelf_view self.new) name.now most result }
+        ensures exact { FetchesInMemory self.old self.new name.now most result }
+    {
+        let answer = self.next_answer(alloc, name.as_bytes(), most);
         self.calls = self.calls.saturating_add(1);
-        let asked = Vec::from_slice(alloc, name.as_bytes())?;
-        let answer = if self.failing.contains(&self.calls) {
-            Err(FetchFault::Failed)
-        } else {
-            copy_held(alloc, self.texts.as_slice(), name.as_bytes(), most)
-        };
         if let Err(FetchFault::Failed) = answer {
+            self.last_fault = Vec::from_slice(alloc, name.as_bytes())?;
             self.faults = self.faults.saturating_add(1);
-            self.last_fault = asked;
         }
         answer
     }
@@ -120,18 +135,4 @@ fn find_text<'a>(texts: &'a [HeldText], name: &[u8]) -> Option<&'a [u8]>
         rest = others;
     }
     None
-}
-
-/// A copy of the text under `name`. `Failed` where no text is held there, `TooLong` where it has more than
-/// `most` bytes, `Memory` for want of memory.
-fn copy_held(alloc: Global, texts: &[HeldText], name: &[u8], most: u64) -> Result<Vec<u8>, FetchFault>
-    ensures { CopiesHeld texts.now name.now most result }
-{
-    let Some(text) = find_text(texts, name) else {
-        return Err(FetchFault::Failed);
-    };
-    if text.len() as u64 > most {
-        return Err(FetchFault::TooLong);
-    }
-    Ok(Vec::from_slice(alloc, text)?)
 }

@@ -1,7 +1,9 @@
 // A sink over a list in memory, whose calls can be made to fail.
 ghost use Rattle.std.specs.Prelude.{◌≡◌, ◌++◌, ◌∷◌, [], OnOk, OnErr};
-ghost use Rattle.policy_outside.specs.MemorySink.{sink_view};
+ghost use Rattle.policy_outside.specs.MemorySink.{sink_view, PutsInMemory};
+ghost use Rattle.policy_outside.specs.Sink.{Puts};
 
+use crate::counts::is_next_to_fail;
 use crate::faults::{Memory, PutFault};
 use crate::sink::Sink;
 use std::alloc::Global;
@@ -61,9 +63,13 @@ impl MemorySink {
 impl Sink for MemorySink {
     ghost seen = { sink_view };
 
-    fn put(&mut self, piece: &[u8]) -> Result<(), PutFault> {
+    fn put(&mut self, piece: &[u8]) -> Result<(), PutFault>
+        ensures puts { Puts (sink_view self.old) (sink_view self.new) piece.now result }
+        ensures exact { PutsInMemory self.old self.new piece.now result }
+    {
+        let fails = is_next_to_fail(self.failing.as_slice(), self.calls);
         self.calls = self.calls.saturating_add(1);
-        if self.failing.contains(&self.calls) {
+        if fails {
             self.faults = self.faults.saturating_add(1);
             return Err(PutFault::Failed);
         }
