@@ -1,10 +1,12 @@
 -- Worked examples of the definitions, which the checker computes.
-use Rattle.std.proofs.Common.{◌≡◌, ◌≤◌, ℕ, ◌-◌, ◌^◌, List, [], ◌∷◌, Option, Some, None, true, false, refl, arith, lit≤, lit<, Err}
+use Rattle.std.proofs.Common.{◌≡◌, ◌-◌, ◌^◌, [], ◌∷◌, Some, None, true, false, refl, arith, lit≤, lit<, Err}
 use Rattle.std.specs.Prelude.{codes}
 use Rattle.policy_outside.specs.declared.faults.PutFault.TheVariants.{Failed}
-use Rattle.policy_outside.specs.Counts.{Rose, raised, next_fails}
+use Rattle.policy_outside.specs.Counts.{Rose, next_fails}
 use Rattle.policy_outside.specs.Texts.{Texts, text_at, IsTold, IsLonger}
-use Rattle.policy_outside.specs.Sink.{SinkView, Puts, PutsPrefix, appended, joined}
+use Rattle.policy_outside.specs.declared.faults.FetchFault.TheVariants.{Failed as FetchFailed, TooLong}
+use Rattle.policy_outside.specs.Shelf.{Fetches}
+use Rattle.policy_outside.specs.Sink.{Puts, joined}
 
 -- a count rises from 2 to 3
 rises : Rose 2 3
@@ -71,3 +73,33 @@ stopped = record {
 -- and counts a fault in that call
 silent : ¬ Puts (record { bytes = None; faults = 1; shortages = 0 }) (record { bytes = None; faults = 1; shortages = 0 }) (codes "bcd") (Err Failed)
 silent puts = omega (arith, puts.failed refl)
+
+-- a fetch of a name that is not held counts a fault and keeps the name
+missed : Fetches (record { texts = Some shelf; faults = 0; last_fault = [] }) (record { texts = Some shelf; faults = 1; last_fault = codes "c" }) (codes "c") 9 (Err FetchFailed)
+missed = record {
+  same_texts = refl;
+  later = lit≤ tt;
+  faults_fit = record { count = lit≤ tt; named = refl };
+  within = tt;
+  told = tt;
+  too_long = tt;
+}
+
+-- with no fault counted it is no answer
+unmoved : ¬ Fetches (record { texts = Some shelf; faults = 0; last_fault = [] }) (record { texts = Some shelf; faults = 0; last_fault = [] }) (codes "c") 9 (Err FetchFailed)
+unmoved fetches = omega (arith, fetches.faults_fit.count)
+
+-- a text of four bytes is too long where at most 3 are asked for
+cut_short : Fetches (record { texts = Some shelf; faults = 0; last_fault = [] }) (record { texts = Some shelf; faults = 0; last_fault = [] }) (codes "a") 3 (Err TooLong)
+cut_short = record {
+  same_texts = refl;
+  later = lit≤ tt;
+  faults_fit = record { count = refl; name = refl };
+  within = tt;
+  told = tt;
+  too_long = lit< tt;
+}
+
+-- and not where at most 4 are
+whole : ¬ Fetches (record { texts = Some shelf; faults = 0; last_fault = [] }) (record { texts = Some shelf; faults = 0; last_fault = [] }) (codes "a") 4 (Err TooLong)
+whole fetches = omega (arith, fetches.too_long)

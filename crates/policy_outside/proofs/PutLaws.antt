@@ -3,7 +3,7 @@ use Rattle.std.proofs.Common.{◌≡◌, ◌≤◌, ◌<◌, ◌-◌, ℕ, suc, 
 use Rattle.std.proofs.lemmas.List.{take_all}
 use Rattle.policy_outside.specs.declared.faults.PutFault.{PutFault}
 use Rattle.policy_outside.specs.Counts.{Rose}
-use Rattle.policy_outside.specs.Sink.{SinkView, Puts, PutsWhole, PutsPrefix, appended, joined}
+use Rattle.policy_outside.specs.Sink.{SinkView, Puts, appended, joined}
 
 -- bytes with two pieces behind them have the joined piece behind them
 pub appended-appended : (bytes : Option (List ℕ)) (first second : List ℕ) → appended (appended bytes first) second ≡ appended bytes (first ++ second)
@@ -82,8 +82,8 @@ leads_at_start start whole = record { on = λ now answer puts. puts }
 pub leads_after : (start here there : SinkView) (first others rest whole : List ℕ) → LeadsOn start here rest whole → first ++ others ≡ rest → Puts here there first (Ok tt) → LeadsOn start there others whole
 leads_after start here there first others rest whole leads parts put = record {
   on = λ now answer puts.
-    let P : List ℕ → Type 0 = λ piece. Puts here now piece answer in
-    leads.on now answer (subst P parts (puts_then here there now first others answer put puts));
+      let P : List ℕ → Type 0 = λ piece. Puts here now piece answer in
+      leads.on now answer (subst P parts (puts_then here there now first others answer put puts));
 }
 
 -- the first part of the rest was at fault

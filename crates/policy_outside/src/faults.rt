@@ -3,17 +3,10 @@ ghost use Rattle.std.specs.Prelude.{◌≡◌};
 ghost use Rattle.policy_outside.specs.declared.faults.FetchFault.TheVariants.{Memory as FetchMemory};
 
 use std::alloc::{AllocError, AllocFailed};
-use std::fmt;
 
 /// Want of memory, and nothing else.
 #[derive(Clone, Copy, Debug, PartialEq, Eq)]
 pub struct Memory;
-
-impl fmt::Display for Memory {
-    fn fmt<W: fmt::Write>(&self, f: &mut fmt::Formatter<W>) -> fmt::Result {
-        write!(f, "out of memory")
-    }
-}
 
 impl From<AllocError> for Memory {
     fn from(_error: AllocError) -> Memory {

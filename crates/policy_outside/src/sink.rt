@@ -1,5 +1,5 @@
 // Where pieces of output are put.
-ghost use Rattle.std.specs.Prelude.{◌<◌, ◌≤◌, length, map};
+ghost use Rattle.std.specs.Prelude.{◌≡◌, ◌<◌, ◌++◌, length, map};
 ghost use Rattle.policy_outside.specs.Sink.{SinkView, Puts, joined};
 
 use crate::faults::PutFault;
@@ -37,12 +37,13 @@ pub fn put_line<E: Sink>(sink: &mut E, pieces: &[&[u8]]) -> Result<(), PutFault>
 /// Takes no memory of its own.
 ///
 /// The answer and what it says are those of one `put` of the whole text.
+#[tactic(auto, using(crate::proofs::PutLaws::leads_after))]
 pub fn put_lines<O: Sink>(sink: &mut O, text: &[u8]) -> Result<(), PutFault>
     ensures { Puts (O.seen sink.old) (O.seen sink.new) text.now result }
 {
     let mut rest = text;
     while !rest.is_empty() {
-        let (line, others) = rest.split_at(first_line_length(rest));
+        let (line, others) = split_line(rest);
         match sink.put(line) {
             Ok(()) => rest = others,
             Err(fault) => return Err(fault),
@@ -51,14 +52,14 @@ pub fn put_lines<O: Sink>(sink: &mut O, text: &[u8]) -> Result<(), PutFault>
     Ok(())
 }
 
-/// How many bytes the first line of a text has, its LF included.
-fn first_line_length(text: &[u8]) -> usize
+/// The first line of a text with its LF, or the whole text where it has none, and what stands behind it.
+fn split_line(text: &[u8]) -> (&[u8], &[u8])
     requires { 0 < length text.now }
-    ensures some { 0 < result }
-    ensures within { result ≤ length text.now }
+    ensures parts { result.0.now ++ result.1.now ≡ text.now }
+    ensures shorter { length result.1.now < length text.now }
 {
     match text.iter().position(|byte| *byte == b'\n') {
-        Some(place) => place + 1,
-        None => text.len(),
+        Some(place) => text.split_at(place + 1),
+        None => text.split_at(text.len()),
     }
 }

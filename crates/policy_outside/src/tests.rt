@@ -3,7 +3,7 @@ use crate::{
     FetchFault, FileShelf, MemoryShelf, MemorySink, PutFault, Shelf, Sink, WriteSink, put_line,
     put_lines,
 };
-use std::io;
+use std::fs;
 use std::test::Fail;
 
 /// What a fetch with ample memory answers.
@@ -35,7 +35,10 @@ fn fetches_from_memory(rt: HostRuntime) {
         ("b", 9, Ok("beside")),
         ("c", 9, Err(FetchFault::Failed)),
     ] {
-        assert!(rt; is_fetched(&rt, &mut shelf, name, most, want), "{name} {most}");
+        assert!(rt;
+            is_fetched(&rt, &mut shelf, name, most, want),
+            "{name} {most}"
+        );
     }
 }
 
@@ -67,26 +70,32 @@ fn puts_a_line_at_a_time(rt: HostRuntime) {
 }
 
 #[test]
-fn fetches_a_file(rt: HostRuntime) {
-    let text = "ip prefix-list PL seq 5 permit 10.0.0.0/8 le 24\n";
+fn fetches_a_file(rt: HostRuntime) -> Result<(), Fail> {
+    let text = vec![in rt.alloc(); b'x'; 20_000]?;
+    let text = String::from_utf8(text)?;
+    fs::write(&rt, "fetched.cfg", text.as_str())?;
     let mut shelf = FileShelf::new(&rt, rt.alloc());
     for (name, most, want) in [
-        ("short.cfg", 48, Ok(text)),
-        ("short.cfg", 47, Err(FetchFault::TooLong)),
-        ("absent.cfg", 48, Err(FetchFault::Failed)),
-        (".", 48, Err(FetchFault::Failed)),
+        ("fetched.cfg", 20_000, Ok(text.as_str())),
+        ("fetched.cfg", 19_999, Err(FetchFault::TooLong)),
+        ("absent.cfg", 20_000, Err(FetchFault::Failed)),
+        (".", 20_000, Err(FetchFault::Failed)),
     ] {
-        assert!(rt; is_fetched(&rt, &mut shelf, name, most, want), "{name} {most}");
+        assert!(rt;
+            is_fetched(&rt, &mut shelf, name, most, want),
+            "{name} {most}"
+        );
     }
+    fs::remove_file(&rt, "fetched.cfg")?;
+    Ok(())
 }
 
 #[test]
-fn writes_to_a_writer(rt: HostRuntime) -> Result<(), Fail> {
-    let mut bytes = Vec::new(rt.alloc());
-    let mut sink = WriteSink::new(&mut bytes);
+fn writes_to_a_writer(rt: HostRuntime) {
+    let mut room = [0u8; 6];
+    let mut sink = WriteSink::new(room.as_mut_slice());
     assert_eq!(rt; sink.put(b"one\n"), Ok(()));
-    assert_eq!(rt; sink.put(b"two\n"), Ok(()));
+    assert_eq!(rt; sink.put(b"two\n"), Err(PutFault::Failed));
     drop(sink);
-    assert_eq!(rt; bytes.as_slice(), b"one\ntwo\n".as_slice());
-    Ok(())
+    assert_eq!(rt; room.as_slice(), b"one\ntw".as_slice());
 }

@@ -1,6 +1,6 @@
 -- A piece that was taken whole leads on to the others, and one that was not is a fault of the joined pieces.
 use Rattle.std.proofs.Common.{[]}
-use Rattle.policy_outside.proofs.PutLaws.{leads_after, leads_out, leads_to_end, joined_refs, joined_refs_split, joined_refs_none}
+use Rattle.policy_outside.proofs.PutLaws.{leads_after, leads_out, leads_to_end, joined_refs_split, joined_refs_none}
 use Rattle.policy_outside.proofs.sink.put_line.Goals as goal
 
 pub loop-rest-preserved : goal.loop-rest-preserved
