@@ -1,7 +1,8 @@
 -- Laws of put: calls one after the other are one call of the joined pieces.
-use Rattle.std.proofs.Common.{◌≡◌, ◌≤◌, ◌<◌, ◌-◌, ℕ, suc, Bor, length, map, take, drop, get_or, List, [], ◌∷◌, ◌++◌, Option, Some, None, Result, Ok, Err, refl, ap, sym, ◌∙◌, subst, append_assoc, append-nil, arith}
+use Rattle.std.proofs.Common.{◌≡◌, ◌⊎◌, inl, inr, ◌≤◌, ◌<◌, ◌-◌, ℕ, suc, Bor, length, map, take, drop, get_or, List, [], ◌∷◌, ◌++◌, Option, Some, None, Result, Ok, Err, refl, ap, sym, ◌∙◌, subst, append_assoc, append-nil, arith}
 use Rattle.std.proofs.lemmas.List.{take_all}
 use Rattle.policy_outside.specs.declared.faults.PutFault.{PutFault}
+use Rattle.policy_outside.specs.declared.faults.PutFault.TheVariants.{Failed, Memory}
 use Rattle.policy_outside.specs.Counts.{Rose}
 use Rattle.policy_outside.specs.Sink.{SinkView, Puts, appended, joined}
 
@@ -69,6 +70,11 @@ puts_stopped before now first second fault stopped = record {
   failed = stopped.failed;
   memory = stopped.memory;
 }
+
+-- a fault has its cause in one of the counts
+pub fault_has_cause : (before now : SinkView) (piece : List ℕ) (fault : PutFault) → Puts before now piece (Err fault) → Rose before.faults now.faults ⊎ Rose before.shortages now.shortages
+fault_has_cause before now piece Failed puts = inl (puts.failed refl)
+fault_has_cause before now piece Memory puts = inr (puts.memory refl)
 
 -- whatever one call puts of the rest from here on, the whole has been put since the start
 pub record LeadsOn (start here : SinkView) (rest whole : List ℕ) : Type 0 where

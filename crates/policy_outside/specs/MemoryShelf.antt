@@ -5,7 +5,7 @@ use Rattle.policy_outside.specs.Counts.{raised, next_fails}
 use Rattle.policy_outside.specs.Shelf.{ShelfView, Fetched}
 use Rattle.policy_outside.specs.Texts.{Texts, text_at, IsLonger}
 
--- the texts under their names, the numbers of the calls that are to fail, how many calls there were, and the faults
+-- the texts, the numbers of the calls that are to fail, how many calls there were, and the faults
 pub record ShelfInMemory : Type 0 where
   pub texts : Texts
   pub failing : List ℕ
@@ -15,7 +15,8 @@ pub record ShelfInMemory : Type 0 where
 
 -- such a shelf tells its texts
 abbrev pub shelf_view : ShelfInMemory → ShelfView
-shelf_view shelf = record { texts = Some shelf.texts; faults = shelf.faults; last_fault = shelf.last_fault }
+shelf_view shelf =
+    record { texts = Some shelf.texts; faults = shelf.faults; last_fault = shelf.last_fault }
 
 -- the text is held under the name, and nothing else changed
 pub record Adds (before now : ShelfInMemory) (name text : List ℕ) : Type 0 where
@@ -23,22 +24,17 @@ pub record Adds (before now : ShelfInMemory) (name text : List ℕ) : Type 0 whe
   pub others : (other : List ℕ) → other ≢ name → text_at now.texts other ≡ text_at before.texts other
   pub same : now ≡ record before { texts = now.texts }
 
--- a copy of the text under a name: Failed exactly where none is held there, TooLong exactly where it is longer than most, but for want of memory
-abbrev pub CopiesHeld : Texts → List ℕ → ℕ → Fetched → Type 0
-CopiesHeld texts name most (Ok copy) = (text_at texts name ≡ Some copy.items) × (length copy.items ≤ most)
-CopiesHeld texts name most (Err Failed) = text_at texts name ≡ None
-CopiesHeld texts name most (Err TooLong) = IsLonger texts name most
-CopiesHeld texts name most (Err Memory) = Unit {0}
-
--- what the next call answers: Failed exactly where it is to fail or no text is held under the name, TooLong exactly where it is not to fail and the text is longer than most, but for want of memory
-abbrev pub AnswersNext : ShelfInMemory → List ℕ → ℕ → Fetched → Type 0
-AnswersNext shelf name most (Ok copy) =
-    (next_fails shelf.failing shelf.calls ≡ false) × (text_at shelf.texts name ≡ Some copy.items) × (length copy.items ≤ most)
-AnswersNext shelf name most (Err Failed) =
+-- the next answer, but for want of memory: Failed where the call is to fail or no text is held, else by the text's length
+abbrev pub AnswersNextFetch : ShelfInMemory → List ℕ → ℕ → Fetched → Type 0
+AnswersNextFetch shelf name most (Ok copy) =
+    (next_fails shelf.failing shelf.calls ≡ false)
+    × (text_at shelf.texts name ≡ Some copy.items)
+    × (length copy.items ≤ most)
+AnswersNextFetch shelf name most (Err Failed) =
     (next_fails shelf.failing shelf.calls ≡ true) ⊎ (text_at shelf.texts name ≡ None)
-AnswersNext shelf name most (Err TooLong) =
+AnswersNextFetch shelf name most (Err TooLong) =
     (next_fails shelf.failing shelf.calls ≡ false) × IsLonger shelf.texts name most
-AnswersNext shelf name most (Err Memory) = Unit {0}
+AnswersNextFetch shelf name most (Err Memory) = Unit {0}
 
 -- the shelf after a call with this answer: every call is counted, and a fault is counted and its name kept
 abbrev pub after_fetch : ShelfInMemory → List ℕ → Fetched → ShelfInMemory
@@ -49,6 +45,7 @@ after_fetch shelf name (Err TooLong) = record shelf { calls = raised shelf.calls
 after_fetch shelf name (Err Memory) = record shelf { calls = raised shelf.calls }
 
 -- one call of fetch over memory
-pub record FetchesInMemory (before now : ShelfInMemory) (name : List ℕ) (most : ℕ) (answer : Fetched) : Type 0 where
-  pub answers : AnswersNext before name most answer
+pub record FetchesInMemory
+    (before now : ShelfInMemory) (name : List ℕ) (most : ℕ) (answer : Fetched) : Type 0 where
+  pub answers : AnswersNextFetch before name most answer
   pub leaves : now ≡ after_fetch before name answer

@@ -6,7 +6,7 @@ use Rattle.policy_outside.specs.declared.faults.FetchFault.TheVariants.{Failed, 
 use Rattle.policy_outside.specs.Counts.{Rose}
 use Rattle.policy_outside.specs.Texts.{Texts, IsTold, IsLonger}
 
--- the texts under their names, where the shelf tells them; how many fetches were at fault; the name of the last of these, empty at first
+-- the texts, where the shelf tells them, the count of faults, and the name of the last fault, empty at first
 pub record ShelfView : Type 0 where
   pub texts : Option Texts
   pub faults : ℕ
@@ -26,14 +26,14 @@ pub record FaultRose (before now : ShelfView) (name : List ℕ) : Type 0 where
   pub count : Rose before.faults now.faults
   pub named : now.last_fault ≡ name
 
--- Failed comes only where the count rose, at the name that was asked for; every other answer leaves the count and the name
+-- Failed comes only where the count rose, at the asked name; every other answer leaves the count and the name
 abbrev pub FaultsFit : ShelfView → ShelfView → List ℕ → Fetched → Type 0
 FaultsFit before now name (Ok _) = SameFaults before now
 FaultsFit before now name (Err Failed) = FaultRose before now name
 FaultsFit before now name (Err TooLong) = SameFaults before now
 FaultsFit before now name (Err Memory) = SameFaults before now
 
--- an answer that is neither Failed nor Memory is TooLong exactly where the text under the name is longer than most
+-- an answer that is neither Failed nor Memory is TooLong exactly where the named text is longer than most
 abbrev pub TooLongExactly : Texts → List ℕ → ℕ → Fetched → Type 0
 TooLongExactly texts name most (Ok _) = ¬ IsLonger texts name most
 TooLongExactly texts name most (Err Failed) = Unit {0}
@@ -41,12 +41,14 @@ TooLongExactly texts name most (Err TooLong) = IsLonger texts name most
 TooLongExactly texts name most (Err Memory) = Unit {0}
 
 -- one call of fetch, for the text under a name with at most so many bytes
-pub record Fetches (before now : ShelfView) (name : List ℕ) (most : ℕ) (answer : Fetched) : Type 0 where
+pub record Fetches
+    (before now : ShelfView) (name : List ℕ) (most : ℕ) (answer : Fetched) : Type 0 where
   -- no call changes the texts
   pub same_texts : now.texts ≡ before.texts
   -- the count of faults never falls
   pub later : before.faults ≤ now.faults
   pub faults_fit : FaultsFit before now name answer
+  -- Ok has at most so many bytes, and is the named text where the texts are told
   pub within : IfOk answer (λ text. length text.items ≤ most)
   pub told : IfOk answer (λ text. IsTold before.texts name text.items)
   pub too_long : IfSome before.texts (λ texts. TooLongExactly texts name most answer)

@@ -4,7 +4,7 @@ use Rattle.policy_outside.specs.declared.faults.PutFault.{PutFault}
 use Rattle.policy_outside.specs.declared.faults.PutFault.TheVariants.{Failed, Memory}
 use Rattle.policy_outside.specs.Counts.{Rose}
 
--- the bytes so far, where the sink tells them; how many puts were at fault; how many wanted memory
+-- the bytes so far, where the sink tells them, the count of faults, and the count of shortages of memory
 pub record SinkView : Type 0 where
   pub bytes : Option (List ℕ)
   pub faults : ℕ
@@ -29,10 +29,12 @@ pub record PutsPrefix (before now : SinkView) (piece : List ℕ) : Type 0 where
   pub bytes : now.bytes ≡ appended before.bytes part
 
 -- one call of put, or several whose pieces are joined
-pub record Puts (before now : SinkView) (piece : List ℕ) (answer : Result (Unit {0}) PutFault) : Type 0 where
+pub record Puts
+    (before now : SinkView) (piece : List ℕ) (answer : Result (Unit {0}) PutFault) : Type 0 where
   -- neither count falls
   pub faults_later : before.faults ≤ now.faults
   pub shortages_later : before.shortages ≤ now.shortages
+  -- Ok appends the piece and leaves both counts; after any other answer a prefix of it was appended
   pub whole : OnOk answer (PutsWhole before now piece)
   pub prefix : OnErr answer (PutsPrefix before now piece)
   -- Failed comes only where the count of faults rose, Memory only where the count of shortages rose

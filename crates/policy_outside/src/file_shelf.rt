@@ -46,7 +46,8 @@ impl<'a, R: Files> FileShelf<'a, R> {
 impl<R: Files> Shelf for FileShelf<'_, R> {
     ghost seen = { λ s. s };
 
-    /// The bytes of the file `name`. A file that is missing, that may not be read or that is a folder is a fault.
+    /// The bytes of the file `name`, of which at most `most + 1` are read. A file that is missing or may
+    /// not be read is a fault, and so is a folder.
     fn fetch(&mut self, alloc: Global, name: &str, most: u64) -> Result<Vec<u8>, FetchFault> {
         let asked = Vec::from_slice(alloc, name.as_bytes())?;
         let answer = read_named(self.files, alloc, name, most);
@@ -78,8 +79,10 @@ fn read_named<R: Files>(
 /// `Failed` where a read fails, `TooLong` where more than `most` bytes are left, `Memory` for want of memory.
 fn read_text<F: Read>(alloc: Global, reader: &mut F, most: u64) -> Result<Vec<u8>, FetchFault>
     ensures within { IfOk result (λ text. length text.items ≤ most) }
-    ensures whole { IfOk result (λ text. IfSome (F.remaining reader.old) (λ bytes. text.items ≡ bytes)) }
-    ensures long { IsErrOf result FetchFault.TooLong → IfSome (F.remaining reader.old) (λ bytes. most < length bytes) }
+    ensures whole { IfOk result
+        (λ text. IfSome (F.remaining reader.old) (λ bytes. text.items ≡ bytes)) }
+    ensures long { IsErrOf result FetchFault.TooLong
+        → IfSome (F.remaining reader.old) (λ bytes. most < length bytes) }
 {
     let mut text = Vec::new(alloc);
     let mut chunk = [0u8; CHUNK];

@@ -1,7 +1,8 @@
 // A shelf over a list in memory, whose calls can be made to fail.
 ghost use Rattle.std.specs.Prelude.{◌≡◌, ◌++◌, ◌∷◌, [], OnOk, OnErr, IfOk, option_copied};
 ghost use Rattle.policy_outside.specs.Texts.{text_at};
-ghost use Rattle.policy_outside.specs.MemoryShelf.{shelf_view, Adds, AnswersNext, FetchesInMemory};
+ghost use Rattle.policy_outside.specs.MemoryShelf.{shelf_view, Adds, AnswersNextFetch};
+ghost use Rattle.policy_outside.specs.MemoryShelf.{FetchesInMemory};
 ghost use Rattle.policy_outside.specs.Shelf.{Fetches};
 
 use crate::counts::is_next_to_fail;
@@ -9,21 +10,6 @@ use crate::faults::{FetchFault, Memory};
 use crate::shelf::Shelf;
 use std::alloc::{AllocError, Global};
 use std::marker::Model;
-
-/// A text under its name; to a contract, the pair of both.
-#[derive(Drop)]
-struct HeldText {
-    name: Vec<u8>,
-    text: Vec<u8>,
-}
-
-impl Model for HeldText {
-    ghost use Rattle.std.specs.Prelude.{ℕ, List};
-
-    ghost Value = { List ℕ × List ℕ };
-
-    ghost view = { λ h. (h.name.items, h.text.items) };
-}
 
 /// A shelf that keeps its texts in memory and tells them. Its calls of `fetch` are counted from 1, and
 /// those that `fail_at` names answer `Failed`, as does a call for a name that it does not hold.
@@ -41,13 +27,20 @@ impl Model for MemoryShelf {
 
     ghost Value = { ShelfInMemory };
 
-    ghost view = { λ s. record { texts = s.texts.items; failing = s.failing.items; calls = s.calls; faults = s.faults; last_fault = s.last_fault.items } };
+    ghost view = { λ s. record {
+      texts = s.texts.items;
+      failing = s.failing.items;
+      calls = s.calls;
+      faults = s.faults;
+      last_fault = s.last_fault.items;
+    } };
 }
 
 impl MemoryShelf {
     /// A shelf with no texts and no faults, none of whose calls is to fail.
     pub fn new(alloc: Global) -> MemoryShelf
-        ensures { result ≡ record { texts = []; failing = []; calls = 0; faults = 0; last_fault = [] } }
+        ensures { result ≡ record
+            { texts = []; failing = []; calls = 0; faults = 0; last_fault = [] } }
     {
         MemoryShelf {
             texts: Vec::new(alloc),
@@ -73,7 +66,8 @@ impl MemoryShelf {
     /// Makes the call of `fetch` with this number fail; the first call has number 1.
     /// After `Memory` the shelf is unchanged.
     pub fn fail_at(&mut self, call: u64) -> Result<(), Memory>
-        ensures ok { OnOk result (self.new ≡ record self.old { failing = self.old.failing ++ call ∷ [] }) }
+        ensures ok { OnOk result
+            (self.new ≡ record self.old { failing = self.old.failing ++ call ∷ [] }) }
         ensures err { OnErr result (self.new ≡ self.old) }
     {
         self.failing.push(call)?;
@@ -82,7 +76,7 @@ impl MemoryShelf {
 
     /// What the next call of `fetch` answers.
     fn next_answer(&self, alloc: Global, name: &[u8], most: u64) -> Result<Vec<u8>, FetchFault>
-        ensures { AnswersNext self.now name.now most result }
+        ensures { AnswersNextFetch self.now name.now most result }
     {
         if is_next_to_fail(self.failing.as_slice(), self.calls) {
             return Err(FetchFault::Failed);
@@ -95,15 +89,6 @@ impl MemoryShelf {
         }
         Ok(Vec::from_slice(alloc, text)?)
     }
-}
-
-/// A copy of both.
-fn held_text(alloc: Global, name: &[u8], text: &[u8]) -> Result<HeldText, AllocError>
-    ensures { IfOk result (λ held. held ≡ (name.now, text.now)) }
-{
-    let name = Vec::from_slice(alloc, name)?;
-    let text = Vec::from_slice(alloc, text)?;
-    Ok(HeldText { name, text })
 }
 
 impl Shelf for MemoryShelf {
@@ -121,6 +106,30 @@ impl Shelf for MemoryShelf {
         }
         answer
     }
+}
+
+/// A text under its name; to a contract, the pair of both.
+#[derive(Drop)]
+struct HeldText {
+    name: Vec<u8>,
+    text: Vec<u8>,
+}
+
+impl Model for HeldText {
+    ghost use Rattle.std.specs.Prelude.{ℕ, List};
+
+    ghost Value = { List ℕ × List ℕ };
+
+    ghost view = { λ h. (h.name.items, h.text.items) };
+}
+
+/// A copy of a name and its text.
+fn held_text(alloc: Global, name: &[u8], text: &[u8]) -> Result<HeldText, AllocError>
+    ensures { IfOk result (λ held. held ≡ (name.now, text.now)) }
+{
+    let name = Vec::from_slice(alloc, name)?;
+    let text = Vec::from_slice(alloc, text)?;
+    Ok(HeldText { name, text })
 }
 
 /// The text under `name`. `None` where no text is held there.

@@ -25,13 +25,20 @@ impl Model for MemorySink {
 
     ghost Value = { SinkInMemory };
 
-    ghost view = { λ s. record { bytes = s.bytes.items; failing = s.failing.items; calls = s.calls; faults = s.faults; shortages = s.shortages } };
+    ghost view = { λ s. record {
+      bytes = s.bytes.items;
+      failing = s.failing.items;
+      calls = s.calls;
+      faults = s.faults;
+      shortages = s.shortages;
+    } };
 }
 
 impl MemorySink {
     /// An empty sink with both counts at 0, none of whose calls is to fail.
     pub fn new(alloc: Global) -> MemorySink
-        ensures { result ≡ record { bytes = []; failing = []; calls = 0; faults = 0; shortages = 0 } }
+        ensures { result ≡ record
+            { bytes = []; failing = []; calls = 0; faults = 0; shortages = 0 } }
     {
         MemorySink {
             bytes: Vec::new(alloc),
@@ -45,7 +52,8 @@ impl MemorySink {
     /// Makes the call of `put` with this number fail; the first call has number 1.
     /// After `Memory` the sink is unchanged.
     pub fn fail_at(&mut self, call: u64) -> Result<(), Memory>
-        ensures ok { OnOk result (self.new ≡ record self.old { failing = self.old.failing ++ call ∷ [] }) }
+        ensures ok { OnOk result
+            (self.new ≡ record self.old { failing = self.old.failing ++ call ∷ [] }) }
         ensures err { OnErr result (self.new ≡ self.old) }
     {
         self.failing.push(call)?;

@@ -6,7 +6,8 @@ use std::alloc::Global;
 
 /// A place that holds texts under names: a directory of files, or a list in memory.
 pub trait Shelf {
-    /// What the shelf means: its texts where it tells them, its count of faults, and the name of its last fault.
+    /// What the shelf means: its texts, where it tells them, its count of faults, and the name of its
+    /// last fault.
     ghost seen: { Self → ShelfView };
 
     /// The text under `name`, a list of at most `most` bytes.

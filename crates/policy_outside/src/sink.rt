@@ -6,7 +6,8 @@ use crate::faults::PutFault;
 
 /// A place that takes bytes: a stream, or a list in memory.
 pub trait Sink {
-    /// What the sink means: its bytes so far where it tells them, and its counts of faults and of shortages of memory.
+    /// What the sink means: its bytes so far, where it tells them, and its counts of faults and of
+    /// shortages of memory.
     ghost seen: { Self → SinkView };
 
     /// Appends the bytes of `piece`.
@@ -21,7 +22,8 @@ pub trait Sink {
 ///
 /// The answer and what it says are those of one `put` of the joined pieces.
 pub fn put_line<E: Sink>(sink: &mut E, pieces: &[&[u8]]) -> Result<(), PutFault>
-    ensures { Puts (E.seen sink.old) (E.seen sink.new) (joined (map (λ piece. piece.now) pieces.now)) result }
+    ensures { Puts (E.seen sink.old) (E.seen sink.new)
+        (joined (map (λ piece. piece.now) pieces.now)) result }
 {
     let mut rest = pieces;
     while let [piece, others @ ..] = rest {
