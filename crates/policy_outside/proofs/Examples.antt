@@ -1,12 +1,12 @@
 -- Worked examples of the definitions, which the checker computes.
-use Rattle.std.proofs.Common.{◌≡◌, ◌-◌, ◌^◌, [], ◌∷◌, Some, None, true, false, refl, arith, lit≤, lit<, Err}
+use Rattle.std.proofs.Common.{◌≡◌, ℕ, List, ◌-◌, ◌^◌, [], ◌∷◌, Some, None, true, false, refl, arith, lit≤, lit<, Err}
 use Rattle.std.specs.Prelude.{codes}
 use Rattle.policy_outside.specs.declared.faults.PutFault.TheVariants.{Failed}
 use Rattle.policy_outside.specs.Counts.{Rose, next_fails}
 use Rattle.policy_outside.specs.Texts.{Texts, text_at, IsTold, IsLonger}
 use Rattle.policy_outside.specs.declared.faults.FetchFault.TheVariants.{Failed as FetchFailed, TooLong}
-use Rattle.policy_outside.specs.Shelf.{Fetches}
-use Rattle.policy_outside.specs.Sink.{Puts, joined}
+use Rattle.policy_outside.specs.Shelf.{ShelfView, Fetches}
+use Rattle.policy_outside.specs.Sink.{SinkView, Puts, joined}
 
 -- a count rises from 2 to 3
 rises : Rose 2 3
@@ -59,8 +59,12 @@ not_longer long = omega (arith, long)
 line : joined (codes "in.cfg" ∷ codes ": " ∷ codes "cannot be read" ∷ []) ≡ codes "in.cfg: cannot be read"
 line = refl
 
+-- what a sink shows that tells its bytes
+abbrev told_bytes : List ℕ → ℕ → SinkView
+told_bytes bytes faults = record { bytes = Some bytes; faults = faults; shortages = 0 }
+
 -- a put that is at fault may have taken a prefix
-stopped : Puts (record { bytes = Some (codes "a"); faults = 0; shortages = 0 }) (record { bytes = Some (codes "abc"); faults = 1; shortages = 0 }) (codes "bcd") (Err Failed)
+stopped : Puts (told_bytes (codes "a") 0) (told_bytes (codes "abc") 1) (codes "bcd") (Err Failed)
 stopped = record {
   faults_later = lit≤ tt;
   shortages_later = lit≤ tt;
@@ -70,12 +74,16 @@ stopped = record {
   memory = λ answer. cc;
 }
 
--- and counts a fault in that call
-silent : ¬ Puts (record { bytes = None; faults = 1; shortages = 0 }) (record { bytes = None; faults = 1; shortages = 0 }) (codes "bcd") (Err Failed)
+-- a put that counts no fault is not at fault
+silent : ¬ Puts (told_bytes [] 1) (told_bytes [] 1) (codes "bcd") (Err Failed)
 silent puts = omega (arith, puts.failed refl)
 
+-- what the shelf shows after so many faults, the last at this name
+abbrev told_texts : ℕ → List ℕ → ShelfView
+told_texts faults last_fault = record { texts = Some shelf; faults = faults; last_fault = last_fault }
+
 -- a fetch of a name that is not held counts a fault and keeps the name
-missed : Fetches (record { texts = Some shelf; faults = 0; last_fault = [] }) (record { texts = Some shelf; faults = 1; last_fault = codes "c" }) (codes "c") 9 (Err FetchFailed)
+missed : Fetches (told_texts 0 []) (told_texts 1 (codes "c")) (codes "c") 9 (Err FetchFailed)
 missed = record {
   same_texts = refl;
   later = lit≤ tt;
@@ -85,12 +93,12 @@ missed = record {
   too_long = tt;
 }
 
--- with no fault counted it is no answer
-unmoved : ¬ Fetches (record { texts = Some shelf; faults = 0; last_fault = [] }) (record { texts = Some shelf; faults = 0; last_fault = [] }) (codes "c") 9 (Err FetchFailed)
+-- a fetch that counts no fault is not at fault
+unmoved : ¬ Fetches (told_texts 0 []) (told_texts 0 []) (codes "c") 9 (Err FetchFailed)
 unmoved fetches = omega (arith, fetches.faults_fit.count)
 
 -- a text of four bytes is too long where at most 3 are asked for
-cut_short : Fetches (record { texts = Some shelf; faults = 0; last_fault = [] }) (record { texts = Some shelf; faults = 0; last_fault = [] }) (codes "a") 3 (Err TooLong)
+cut_short : Fetches (told_texts 0 []) (told_texts 0 []) (codes "a") 3 (Err TooLong)
 cut_short = record {
   same_texts = refl;
   later = lit≤ tt;
@@ -101,5 +109,5 @@ cut_short = record {
 }
 
 -- and not where at most 4 are
-whole : ¬ Fetches (record { texts = Some shelf; faults = 0; last_fault = [] }) (record { texts = Some shelf; faults = 0; last_fault = [] }) (codes "a") 4 (Err TooLong)
+whole : ¬ Fetches (told_texts 0 []) (told_texts 0 []) (codes "a") 4 (Err TooLong)
 whole fetches = omega (arith, fetches.too_long)

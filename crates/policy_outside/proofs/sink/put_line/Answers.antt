@@ -11,7 +11,10 @@ loop-rest-preserved g c =
 pub returns-in-Err : goal.returns-in-Err
 returns-in-Err g c =
     leads_out _ _ _ _ _ _ _ _ c.loop-rest.invariant
-    (joined_refs_split c.loop-rest.rest.now (record { ref_ptr = (0, 0); now = [] }) c.in-len1-up.len_at_least) c.in-Err.ensures
+    (joined_refs_split c.loop-rest.rest.now (record { ref_ptr = (0, 0); now = [] }) c.in-len1-up.len_at_least)
+    c.in-Err.ensures
 
 pub returns : goal.returns
-returns g c = leads_to_end _ _ _ _ c.loop-rest.invariant (joined_refs_none c.loop-rest.rest.now c.in_default.len_below)
+returns g c =
+    leads_to_end _ _ _ _ c.loop-rest.invariant
+    (joined_refs_none c.loop-rest.rest.now c.in_default.len_below)

@@ -6,7 +6,8 @@ use Rattle.policy_outside.proofs.PutLaws.{leads_out, leads_to_end}
 use Rattle.policy_outside.proofs.sink.put_lines.Goals as goal
 
 pub returns-in-Err : goal.returns-in-Err
-returns-in-Err g c = leads_out _ _ _ _ _ _ _ _ c.loop-rest.invariant c.split_line.ensures.parts c.in-Err.ensures
+returns-in-Err g c =
+    leads_out _ _ _ _ _ _ _ _ c.loop-rest.invariant c.split_line.ensures.parts c.in-Err.ensures
 
 pub returns : goal.returns
 returns g c =
