@@ -1,6 +1,7 @@
 //! The command-line program.
 #![tactic(auto)]
 
+mod plan;
 mod rpl_text;
 mod status;
 

@@ -1,0 +1,10 @@
+use Rattle.std.proofs.Common.{◌≡◌, ◌++◌, length}
+use Rattle.ios_reader.specs.Meaning.{lines_below}
+use Rattle.policy_program.specs.Plan.{preferences_of}
+use Rattle.policy_program.proofs.plan.preferences_of.Given as goal
+
+abbrev pub decreases-loop-rest : goal.decreases-loop-rest
+decreases-loop-rest l = length l.rest
+
+abbrev pub invariant-loop-rest : goal.invariant-loop-rest
+invariant-loop-rest l = l.found.items ++ preferences_of (lines_below l.rest) ≡ preferences_of (lines_below l.below)

@@ -1,0 +1,187 @@
+// How a route-map is taken for writing: its lists, its entries in order of their numbers, and the sets
+// and steps that say the same.
+ghost use Rattle.std.specs.Prelude.{◌≡◌, ℕ, IfOk, List, [], ◌∷◌, ◌++◌, map, option_map, bytes_eq, false};
+ghost use Rattle.std.specs.List.Sorted.{IsPermutation, IsNonDecreasingBy};
+ghost use Rattle.ios_reader.specs.Profile.{is_line_sort, sort_of_form};
+ghost use Rattle.ios_reader.specs.Meaning.{lines_below, entries_of};
+ghost use Rattle.policy_program.specs.Plan.{guard_of, preferences_of, plain_entry, plain_entries, entry_view, entry_views, list_entries, ranges_named, ranges_at};
+
+use ios_reader::{IosForm, IosItem, ItemSort, MapHeader, PrefixEntry};
+use route_types::{Memory, PrefixRange};
+use std::alloc::Global;
+use std::collections::BTreeMap;
+
+/// An entry of a route-map as it is written: the prefix list that guards it, if one does, and the local
+/// preferences that it sets.
+#[derive(Debug, Drop)]
+pub struct PlainEntry<'a> {
+    pub number: u64,
+    pub permit: bool,
+    pub guard: Option<&'a [u8]>,
+    pub preferences: Vec<u32>,
+}
+
+fn is_line(form: &IosForm) -> bool
+    ensures { result ≡ is_line_sort (sort_of_form form.now) }
+{
+    match form {
+        IosForm::PrefixEntry(_) | IosForm::MapHeader(_) => false,
+        IosForm::MatchPrefix(_) | IosForm::SetLocalPreference(_) => true,
+        IosForm::Other(other) => match other.sort {
+            ItemSort::PrefixList | ItemSort::CommunityList | ItemSort::PathList | ItemSort::Map => {
+                false
+            }
+            ItemSort::Line => true,
+        },
+    }
+}
+
+/// The name of the list of the first match line, if there is one.
+fn guard_of<'a>(below: &'a [IosItem]) -> Option<&'a [u8]>
+    ensures { option_map (λ name. name.now) result ≡ guard_of (lines_below below.now) }
+{
+    let mut rest = below;
+    while let [item, others @ ..] = rest {
+        if !is_line(&item.form) {
+            return None;
+        }
+        if let IosForm::MatchPrefix(names) = &item.form {
+            if let [name, ..] = names.as_slice() {
+                return Some(name.as_slice());
+            }
+        }
+        rest = others;
+    }
+    None
+}
+
+/// The local preferences that the lines below a header set, in their order.
+fn preferences_of(alloc: Global, below: &[IosItem]) -> Result<Vec<u32>, Memory>
+    ensures { IfOk result (λ found. found.items ≡ preferences_of (lines_below below.now)) }
+{
+    let mut found = Vec::new(alloc);
+    let mut rest = below;
+    while let [item, others @ ..] = rest {
+        if !is_line(&item.form) {
+            return Ok(found);
+        }
+        if let IosForm::SetLocalPreference(preference) = item.form {
+            found.push(preference)?;
+        }
+        rest = others;
+    }
+    Ok(found)
+}
+
+/// The entries of the map of this name, in text order.
+fn entries_of<'a>(
+    alloc: Global,
+    name: &[u8],
+    items: &'a [IosItem],
+) -> Result<Vec<PlainEntry<'a>>, Memory>
+    ensures { IfOk result (λ found. entry_views found.items ≡ plain_entries (entries_of name.now items.now)) }
+{
+    let mut found = Vec::new(alloc);
+    let mut rest = items;
+    while let [item, below @ ..] = rest {
+        if let IosForm::MapHeader(header) = &item.form {
+            if name == header.map.as_slice() {
+                found.push(PlainEntry {
+                    number: header.number,
+                    permit: header.permit,
+                    guard: guard_of(below),
+                    preferences: preferences_of(alloc, below)?,
+                })?;
+            }
+        }
+        rest = below;
+    }
+    Ok(found)
+}
+
+/// The entries of all prefix lists, in text order.
+fn list_entries<'a>(alloc: Global, items: &'a [IosItem]) -> Result<Vec<&'a PrefixEntry>, Memory>
+    ensures { IfOk result (λ found. map (λ e. e.now) found.items ≡ list_entries items.now) }
+{
+    let mut found = Vec::new(alloc);
+    let mut rest = items;
+    while let [item, others @ ..] = rest {
+        if let IosForm::PrefixEntry(entry) = &item.form {
+            found.push(entry)?;
+        }
+        rest = others;
+    }
+    Ok(found)
+}
+
+/// The entries of all prefix lists, in order of their numbers.
+fn ordered_list_entries<'a>(
+    alloc: Global,
+    items: &'a [IosItem],
+) -> Result<Vec<&'a PrefixEntry>, Memory>
+    ensures { IfOk result (λ found. IsPermutation (list_entries items.now) (map (λ e. e.now) found.items)) }
+{
+    let mut found = list_entries(alloc, items)?;
+    found.sort_by_key(|entry| entry.number)?;
+    Ok(found)
+}
+
+/// The entries of the map of this name, in order of their numbers.
+fn ordered_entries<'a>(
+    alloc: Global,
+    name: &[u8],
+    items: &'a [IosItem],
+) -> Result<Vec<PlainEntry<'a>>, Memory>
+    ensures same { IfOk result (λ found. IsPermutation (plain_entries (entries_of name.now items.now)) (entry_views found.items)) }
+    ensures ordered { IfOk result (λ found. IsNonDecreasingBy (λ e. e.number) found.items) }
+{
+    let mut found = entries_of(alloc, name, items)?;
+    found.sort_by_key(|entry| entry.number)?;
+    Ok(found)
+}
+
+/// The ranges that stand under the name of a list, which are then taken from under it.
+fn taken_ranges<'a>(
+    alloc: Global,
+    lists: &mut BTreeMap<&'a [u8], Vec<PrefixRange>>,
+    name: &'a [u8],
+) -> Vec<PrefixRange>
+    ensures taken { result.items ≡ ranges_at lists.old name.now }
+    ensures others { (q : List ℕ) → bytes_eq name.now q ≡ false → ranges_at lists.new q ≡ ranges_at lists.old q }
+{
+    match lists.remove(&name) {
+        Some(ranges) => ranges,
+        None => Vec::new(alloc),
+    }
+}
+
+/// Puts the range of an entry at the end of those of its list.
+fn add_range<'a>(
+    alloc: Global,
+    lists: &mut BTreeMap<&'a [u8], Vec<PrefixRange>>,
+    entry: &'a PrefixEntry,
+) -> Result<(), Memory>
+    ensures { IfOk result (λ _. (q : List ℕ) → ranges_at lists.new q ≡ ranges_at lists.old q ++ ranges_named q (entry.now ∷ [])) }
+{
+    let name = entry.list.as_slice();
+    let mut ranges = taken_ranges(alloc, lists, name);
+    ranges.push(entry.range)?;
+    lists.insert(name, ranges)?;
+    Ok(())
+}
+
+/// The ranges of the lists, each under its name, in order of the entries.
+fn ranges_by_list<'a>(
+    alloc: Global,
+    entries: &[&'a PrefixEntry],
+) -> Result<BTreeMap<&'a [u8], Vec<PrefixRange>>, Memory>
+    ensures { IfOk result (λ lists. (q : List ℕ) → ranges_at lists q ≡ ranges_named q (map (λ e. e.now) entries.now)) }
+{
+    let mut lists: BTreeMap<&'a [u8], Vec<PrefixRange>> = BTreeMap::new(alloc);
+    let mut rest = entries;
+    while let [entry, others @ ..] = rest {
+        add_range(alloc, &mut lists, entry)?;
+        rest = others;
+    }
+    Ok(lists)
+}
