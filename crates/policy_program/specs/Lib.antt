@@ -5,3 +5,6 @@ pub mod Status
 pub mod Ends
 pub mod Plan
 pub mod Steps
+pub mod Sets
+pub mod Planned
+pub mod Written

@@ -3,7 +3,9 @@
 
 mod plan;
 mod rpl_text;
+mod sets;
 mod status;
+mod write;
 
 pub use status::Status;
 

@@ -1,11 +1,16 @@
 // How a route-map is taken for writing: its lists, its entries in order of their numbers, and the sets
 // and steps that say the same.
-ghost use Rattle.std.specs.Prelude.{◌≡◌, ℕ, IfOk, List, [], ◌∷◌, ◌++◌, map, option_map, bytes_eq, false};
+ghost use Rattle.std.specs.Prelude.{◌≡◌, ℕ, IfOk, OnOk, List, [], ◌∷◌, ◌++◌, map, option_map, bytes_eq, false};
 ghost use Rattle.std.specs.List.Sorted.{IsPermutation, IsNonDecreasingBy};
 ghost use Rattle.ios_reader.specs.Profile.{is_line_sort, sort_of_form};
 ghost use Rattle.ios_reader.specs.Meaning.{lines_below, entries_of};
+ghost use Rattle.policy_program.specs.Steps.{step_of, steps_of, contents};
+ghost use Rattle.policy_program.specs.Planned.{Plans, AreRangesOf};
 ghost use Rattle.policy_program.specs.Plan.{guard_of, preferences_of, plain_entry, plain_entries, entry_view, entry_views, list_entries, ranges_named, ranges_at};
 
+use crate::rpl_text::Step;
+use crate::sets::set_place;
+use indexmap::IndexSet;
 use ios_reader::{IosForm, IosItem, ItemSort, MapHeader, PrefixEntry};
 use route_types::{Memory, PrefixRange};
 use std::alloc::Global;
@@ -115,7 +120,7 @@ fn list_entries<'a>(alloc: Global, items: &'a [IosItem]) -> Result<Vec<&'a Prefi
 }
 
 /// The entries of all prefix lists, in order of their numbers.
-fn ordered_list_entries<'a>(
+pub fn ordered_list_entries<'a>(
     alloc: Global,
     items: &'a [IosItem],
 ) -> Result<Vec<&'a PrefixEntry>, Memory>
@@ -127,7 +132,7 @@ fn ordered_list_entries<'a>(
 }
 
 /// The entries of the map of this name, in order of their numbers.
-fn ordered_entries<'a>(
+pub fn ordered_entries<'a>(
     alloc: Global,
     name: &[u8],
     items: &'a [IosItem],
@@ -171,7 +176,7 @@ fn add_range<'a>(
 }
 
 /// The ranges of the lists, each under its name, in order of the entries.
-fn ranges_by_list<'a>(
+pub fn ranges_by_list<'a>(
     alloc: Global,
     entries: &[&'a PrefixEntry],
 ) -> Result<BTreeMap<&'a [u8], Vec<PrefixRange>>, Memory>
@@ -184,4 +189,41 @@ fn ranges_by_list<'a>(
         rest = others;
     }
     Ok(lists)
+}
+
+/// A step of an entry behind the set at this place, if there is one.
+fn step<'e>(guard: Option<usize>, entry: &'e PlainEntry<'_>) -> Step<'e>
+    ensures { step_of result ≡ record { guard = guard; preferences = entry.now.preferences.items; accept = entry.now.permit } }
+{
+    Step {
+        guard,
+        preferences: entry.preferences.as_slice(),
+        accept: entry.permit,
+    }
+}
+
+/// The steps of the entries, up to the first without a guard; their sets are put behind those given.
+pub fn steps_of<'l, 'e, 'a>(
+    alloc: Global,
+    lists: &'l BTreeMap<&'a [u8], Vec<PrefixRange>>,
+    entries: &'e [PlainEntry<'a>],
+    sets: &mut IndexSet<&'l [PrefixRange]>,
+) -> Result<Vec<Step<'e>>, Memory>
+    requires { contents sets.old.keys ≡ [] }
+    ensures planned { IfOk result (λ steps. Plans lists.now (contents sets.new.keys) (steps_of steps.items) (entry_views entries.now)) }
+    ensures plain { OnOk result (AreRangesOf lists.now (contents sets.new.keys)) }
+{
+    let mut places = BTreeMap::new(alloc);
+    let mut steps = Vec::new(alloc);
+    let mut rest = entries;
+    while let [entry, others @ ..] = rest {
+        let Some(name) = entry.guard else {
+            steps.push(step(None, entry))?;
+            return Ok(steps);
+        };
+        let place = set_place(lists, sets, &mut places, name)?;
+        steps.push(step(Some(place), entry))?;
+        rest = others;
+    }
+    Ok(steps)
 }

@@ -1,0 +1,90 @@
+-- Planned steps can be written, and mean what the entries mean.
+use Rattle.std.proofs.Common.{◌≡◌, ◌<◌, ◌^◌, ℕ, zero, suc, Bool, true, false, length, List, [], ◌∷◌, Option, Some, None, refl, sym, ap, subst, ◌∙◌, arith}
+use Rattle.std.specs.Prelude.{slice_get, map, unwrap_or, IfSome}
+use Rattle.std.specs.List.{list_any, AllByRecursion}
+use Rattle.std.proofs.lemmas.Option.{slice_get_within}
+use Rattle.route_types.specs.Range.{RangeParts, in_range}
+use Rattle.route_types.specs.Route.{RouteParts}
+use Rattle.route_types.specs.declared.route.Outcome.{Outcome}
+use Rattle.route_types.specs.declared.route.Outcome.TheVariants.{Reject, Accept}
+use Rattle.route_types.specs.Change.{changed_by}
+use Rattle.route_types.specs.declared.change.Change.TheVariants.{LocalPreference}
+use Rattle.ios_reader.specs.declared.item.IosItem.{IosItem}
+use Rattle.ios_reader.specs.Meaning.{list_ranges}
+use Rattle.rpl_reader.specs.Layout.{Step}
+use Rattle.rpl_reader.specs.Written.{IsPlainRange, IsPlainStep, guard_holds, step_outcome, steps_outcome}
+use Rattle.policy_program.specs.Plan.{Plain, ranges_at, plain_holds, plain_outcome, first_outcome}
+use Rattle.policy_program.specs.Planned.{Lists, SameActions, IsGuard, Plans, AreRangesOf}
+
+pub all_by_place : {A : Type 0} (P : A → Type 0) (xs : List A) → ((p : ℕ) (x : A) → slice_get xs p ≡ Some x → P x) → AllByRecursion P xs
+all_by_place P [] at = tt
+all_by_place P (x ∷ xs) at = (at 0 x refl, all_by_place P xs (λ p y e. at (suc p) y e))
+
+-- the sets are plain where the ranges of all lists are
+pub plain_sets : (lists : Lists) (sets : List (List RangeParts)) → AreRangesOf lists sets → ((q : List ℕ) → AllByRecursion IsPlainRange (ranges_at lists q)) → AllByRecursion (AllByRecursion IsPlainRange) sets
+plain_sets lists sets of plain = all_by_place (AllByRecursion IsPlainRange) sets
+  (λ p x e. let named = of p x e in subst (AllByRecursion IsPlainRange) (sym named.1) (plain named.0))
+
+-- the local preferences of entries fit
+abbrev pub HavePreferences : List Plain → Type 0
+HavePreferences es = AllByRecursion (λ e. AllByRecursion (λ n. n < 2 ^ 32) e.preferences) es
+
+place_within : (sets : List (List RangeParts)) (guard : Option ℕ) (place : ℕ) (x : List RangeParts) → guard ≡ Some place → slice_get sets place ≡ Some x → IfSome guard (λ p. p < length sets)
+place_within sets guard place x guards at = subst (λ g. IfSome g (λ p. p < length sets)) (sym guards) (slice_get_within sets place x at)
+
+-- the steps can be written
+pub plain_steps : (lists : Lists) (sets : List (List RangeParts)) (steps : List Step) (es : List Plain) → Plans lists sets steps es → HavePreferences es → AllByRecursion (IsPlainStep (length sets)) steps
+plain_steps lists sets [] [] planned fit = tt
+plain_steps lists sets (s ∷ ss) [] planned fit = absurd planned
+plain_steps lists sets [] (e ∷ es) planned fit = absurd planned
+plain_steps lists sets (s ∷ ss) (e ∷ es) planned fit = go (λ p. plain_steps lists sets ss es p fit.1) e.guard refl
+  where
+    preferences : AllByRecursion (λ n. n < 2 ^ 32) s.preferences
+    preferences = subst (AllByRecursion (λ n. n < 2 ^ 32)) (sym planned.0.preferences) fit.0
+    go : (Plans lists sets ss es → AllByRecursion (IsPlainStep (length sets)) ss) → (g : Option (List ℕ)) → e.guard ≡ g → IsPlainStep (length sets) s × AllByRecursion (IsPlainStep (length sets)) ss
+    go tail None h =
+        let last = rw h at planned.1 in
+        (record { guard = subst (λ g. IfSome g (λ p. p < length sets)) (sym last.0) tt; preferences = preferences },
+         subst (AllByRecursion (IsPlainStep (length sets))) (sym last.1) tt)
+    go tail (Some name) h =
+        let more = rw h at planned.1 in
+        (record { guard = place_within sets s.guard more.0.place (ranges_at lists name) more.0.guards more.0.set; preferences = preferences },
+         tail more.1)
+
+-- lists hold as they do in the tree
+abbrev pub HoldAlike : Lists → List IosItem → RouteParts → Type 0
+HoldAlike lists all r = (q : List ℕ) → list_any (λ range. in_range range r.prefix) (ranges_at lists q) ≡ list_any (λ range. in_range range r.prefix) (list_ranges q all)
+
+abbrev made : RouteParts → Bool → List ℕ → Outcome
+made r b ns = elim b [ true ↦ Accept (changed_by (map LocalPreference ns) r) | false ↦ Reject ]
+
+same_step : (r : RouteParts) (s : Step) (e : Plain) → SameActions s e → step_outcome r s ≡ plain_outcome r e
+same_step r s e same = ap (λ (b : Bool). made r b s.preferences) same.accept ∙ ap (λ (ns : List ℕ). made r e.permit ns) same.preferences
+
+abbrev pick : Bool → Outcome → Outcome → Outcome
+pick b x y = elim b [ true ↦ x | false ↦ y ]
+
+-- the steps give the outcome of the entries
+pub same_outcome : (lists : Lists) (sets : List (List RangeParts)) (all : List IosItem) (r : RouteParts) (steps : List Step) (es : List Plain) → Plans lists sets steps es → HoldAlike lists all r
+    → steps_outcome sets r steps ≡ first_outcome all r es
+unfolding steps_outcome
+same_outcome lists sets all r [] [] planned alike = refl
+same_outcome lists sets all r (s ∷ ss) [] planned alike = absurd planned
+same_outcome lists sets all r [] (e ∷ es) planned alike = absurd planned
+same_outcome lists sets all r (s ∷ ss) (e ∷ es) planned alike = go (λ p. same_outcome lists sets all r ss es p alike) e.guard refl
+  where
+    go : (Plans lists sets ss es → steps_outcome sets r ss ≡ first_outcome all r es) → (g : Option (List ℕ)) → e.guard ≡ g
+      → pick (guard_holds sets r s.guard) (step_outcome r s) (steps_outcome sets r ss) ≡ pick (plain_holds all r e.guard) (plain_outcome r e) (first_outcome all r es)
+    go tail None h =
+        let last = rw h at planned.1 in
+        let ours : pick (guard_holds sets r s.guard) (step_outcome r s) (steps_outcome sets r ss) ≡ step_outcome r s = ap (λ g. pick (guard_holds sets r g) (step_outcome r s) (steps_outcome sets r ss)) last.0 in
+        let theirs : pick (plain_holds all r e.guard) (plain_outcome r e) (first_outcome all r es) ≡ plain_outcome r e = ap (λ g. pick (plain_holds all r g) (plain_outcome r e) (first_outcome all r es)) h in
+        ours ∙ same_step r s e planned.0 ∙ sym theirs
+    go tail (Some name) h =
+        let more = rw h at planned.1 in
+        let ours : guard_holds sets r s.guard ≡ list_any (λ range. in_range range r.prefix) (ranges_at lists name) =
+          ap (guard_holds sets r) more.0.guards ∙ ap (λ (o : Option (List RangeParts)). list_any (λ range. in_range range r.prefix) (unwrap_or o [])) more.0.set in
+        let theirs : plain_holds all r e.guard ≡ list_any (λ range. in_range range r.prefix) (list_ranges name all) = ap (plain_holds all r) h in
+        ap (λ (b : Bool). pick b (step_outcome r s) (steps_outcome sets r ss)) (ours ∙ alike name ∙ sym theirs)
+      ∙ ap (λ (o : Outcome). pick (plain_holds all r e.guard) o (steps_outcome sets r ss)) (same_step r s e planned.0)
+      ∙ ap (λ (o : Outcome). pick (plain_holds all r e.guard) (plain_outcome r e) o) (tail more.1)
