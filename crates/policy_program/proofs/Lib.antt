@@ -1,3 +1,4 @@
 pub mod Pushed
 pub mod RangeEq
 pub mod Lists
+pub mod Ranges
