@@ -1,4 +1,5 @@
 pub mod Cut
+pub mod Lines
 pub mod Forms
 pub mod Spelling
 pub mod Tree

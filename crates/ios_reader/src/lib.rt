@@ -4,6 +4,7 @@
 #![tactic(auto)]
 
 mod checked;
+mod cut;
 mod item;
 mod tree;
 
