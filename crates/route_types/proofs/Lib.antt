@@ -1,1 +1,8 @@
 mod Examples
+pub mod Numbers
+pub mod Spelled
+pub mod Walk
+pub mod Parts
+pub mod Printed
+pub mod Bits
+pub mod Lines

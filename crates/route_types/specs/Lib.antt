@@ -5,3 +5,5 @@ pub mod Change
 pub mod Range
 pub mod Text
 pub mod Words
+pub mod Walk
+pub mod Print

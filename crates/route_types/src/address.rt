@@ -1,4 +1,6 @@
-ghost use Rattle.std.specs.Prelude.{◌≡◌};
+ghost use Rattle.std.specs.Prelude.{◌≡◌, ◌-◌, ◌*◌, ◌/◌, ◌^◌, ◌<◌, ◌≤◌};
+ghost use Rattle.route_types.specs.declared.address.Family.TheVariants.{V4};
+ghost use Rattle.route_types.specs.Address.{width, prefix_of, IsMasked};
 
 use std::marker::Model;
 
@@ -7,6 +9,18 @@ use std::marker::Model;
 pub enum Family {
     V4,
     V6,
+}
+
+impl Family {
+    /// The bits of an address of the family: 32 or 128.
+    pub fn width(self) -> u8
+        ensures { result ≡ width self }
+    {
+        match self {
+            Family::V4 => 32,
+            Family::V6 => 128,
+        }
+    }
 }
 
 /// An address: its family, and its bits as a number, the first bit the most significant one of 32
@@ -38,7 +52,40 @@ impl Model for Prefix {
     ghost inverse = { λ p. record { address = p.address; length = p.length } };
 }
 
+// The bits in front of the last `count` ones, as a number.
+#[tactic(auto, using(crate::proofs::Bits::front_by_shift))]
+pub(crate) fn front_bits(bits: u128, count: u8) -> u128
+    ensures { result ≡ bits / 2 ^ count }
+{
+    bits.checked_shr(u32::from(count)).unwrap_or(0)
+}
+
+// The bits with the last `count` ones set to 0.
+#[tactic(auto, using(crate::proofs::Bits::masked_by_shift))]
+fn without_last_bits(bits: u128, count: u8) -> u128
+    ensures { result ≡ bits / 2 ^ count * 2 ^ count }
+{
+    front_bits(bits, count).checked_shl(u32::from(count)).unwrap_or(0)
+}
+
 impl Prefix {
+    /// The prefix of an address and a length, 0 to the family's width; the bits behind the length
+    /// are set to 0. The address fits its family.
+    pub fn new(address: Address, length: u8) -> Prefix
+        requires fits { address.bits < 2 ^ width address.family }
+        requires within { length ≤ width address.family }
+        ensures { result ≡ prefix_of address length }
+    {
+        let host = address.family.width() - length;
+        Prefix {
+            address: Address {
+                family: address.family,
+                bits: without_last_bits(address.bits, host),
+            },
+            length,
+        }
+    }
+
     /// The address of the prefix, all its bits behind the length being 0.
     pub fn address(&self) -> Address
         ensures { result ≡ self.now.address }
@@ -51,5 +98,21 @@ impl Prefix {
         ensures { result ≡ self.now.length }
     {
         self.length
+    }
+
+    /// How many bits stand behind the length, all of them 0: 0 to 32 (V4) or 128 (V6).
+    pub fn host_bits(&self) -> u8
+        ensures value { result ≡ width self.now.address.family - self.now.length }
+        ensures masked { IsMasked self.now.address self.now.length }
+    {
+        self.address.family.width() - self.length
+    }
+
+    // The 32 bits of an IPv4 prefix's address.
+    pub(crate) fn v4_bits(&self) -> u32
+        requires { self.now.address.family ≡ V4 }
+        ensures { result ≡ self.now.address.bits }
+    {
+        self.address.bits as u32
     }
 }

@@ -1,6 +1,7 @@
 ghost use Rattle.std.specs.Prelude.{◌≡◌, ◌≤◌};
+ghost use Rattle.route_types.specs.Range.{same_family, contains, in_range};
 
-use crate::address::Prefix;
+use crate::address::{Family, Prefix, front_bits};
 use std::marker::Model;
 
 /// The prefixes within `prefix` whose length is `least` to `most`. `least` is at least the length
@@ -23,6 +24,22 @@ impl Model for PrefixRange {
     ghost invariant = { λ r. r.prefix.length ≤ r.least };
 
     ghost inverse = { λ r. record { prefix = r.prefix; least = r.least; most = r.most } };
+}
+
+fn same_family(a: Family, b: Family) -> bool
+    ensures { result ≡ same_family a b }
+{
+    a == b
+}
+
+// Whether `inner` is `outer` or lies within it.
+fn contains(outer: &Prefix, inner: &Prefix) -> bool
+    ensures { result ≡ contains outer.now inner.now }
+{
+    let host = outer.host_bits();
+    same_family(outer.address().family, inner.address().family)
+        && outer.length() <= inner.length()
+        && front_bits(outer.address().bits, host) == front_bits(inner.address().bits, host)
 }
 
 impl PrefixRange {
@@ -57,5 +74,13 @@ impl PrefixRange {
         ensures { result ≡ self.now.most }
     {
         self.most
+    }
+
+    /// Whether `prefix` lies within the range's prefix, and its length within the range's lengths.
+    pub fn holds(&self, prefix: &Prefix) -> bool
+        ensures { result ≡ in_range self.now prefix.now }
+    {
+        let length = prefix.length();
+        contains(&self.prefix, prefix) && self.least <= length && length <= self.most
     }
 }

@@ -1,0 +1,103 @@
+-- A printed prefix reads as itself.
+use Rattle.std.proofs.Common.{◌≡◌, refl, sym, ap, subst, ◌∙◌, ℕ, ◌+◌, ◌-◌, ◌*◌, ◌/◌, ◌%◌, ◌^◌, ◌<◌, ◌≤◌, List, [], ◌∷◌, ◌++◌, Some, arith, append_assoc}
+use Rattle.std.specs.Prelude.{decimal}
+use Rattle.std.proofs.Math.Nat.{mul-mod_left}
+use Rattle.std.proofs.lemmas.Nat.{div-add-mod'}
+use Rattle.route_types.specs.Address.{PrefixParts, IsMasked, width, prefix_of, masked_address}
+use Rattle.route_types.specs.Words.{Octets, dotted, address_of, prefix_in}
+use Rattle.route_types.specs.Print.{octets_of, prefix_text}
+use Rattle.route_types.specs.declared.address.Address.{Address}
+use Rattle.route_types.specs.declared.address.Family.{Family}
+use Rattle.route_types.specs.declared.address.Family.TheVariants.{V4}
+use Rattle.route_types.proofs.Spelled.{AreOctets, prefix_in_spelled, prefix_in_found}
+
+ap2 : {A B C : Type 0} (f : A → B → C) {a x : A} {b y : B} → a ≡ x → b ≡ y → f a b ≡ f x y
+ap2 f {a} {x} {b} {y} p q = ap (λ z. f z b) p ∙ ap (λ z. f x z) q
+
+multiple : (n m : ℕ) → n % m ≡ 0 → n / m * m ≡ n
+multiple n m e = omega (arith, div-add-mod' n m, e)
+
+pub octets_within : (a : Address) → a.bits < 2 ^ 32 → AreOctets (octets_of a)
+octets_within a h = record { first = omega arith; second = omega arith; third = omega arith; fourth = omega arith }
+
+octets_value : (b : ℕ) → ((b / 256 / 256 / 256 * 256 + b / 256 / 256 % 256) * 256 + b / 256 % 256) * 256 + b % 256 ≡ b
+octets_value b = omega arith
+
+pub octets_address : (a : Address) → a.family ≡ V4 → address_of (octets_of a) ≡ a
+octets_address a e = ap2 (λ (f : Family) (b : ℕ). record { family = f; bits = b }) (sym e) (octets_value a.bits)
+
+-- a masked address is its own masked address
+pub masked_is : (p : PrefixParts) → IsMasked p.address p.length → prefix_of p.address p.length ≡ p
+masked_is p h =
+    let block = 2 ^ (width p.address.family - p.length) in
+    let e : p.address.bits / block * block ≡ p.address.bits = multiple p.address.bits block h.masked in
+    ap (λ (b : ℕ). record { address = record { family = p.address.family; bits = b }; length = p.length }) e
+
+-- each IPv4 prefix is that of four numbers and a length
+pub octets_prefix : (p : PrefixParts) → p.address.family ≡ V4 → IsMasked p.address p.length → prefix_of (address_of (octets_of p.address)) p.length ≡ p
+octets_prefix p v4 h = ap (λ (a : Address). prefix_of a p.length) (octets_address p.address v4) ∙ masked_is p h
+
+small : (p : PrefixParts) → p.address.family ≡ V4 → IsMasked p.address p.length → (p.address.bits < 2 ^ 32) × (p.length ≤ 32)
+small p v4 h =
+    (subst (λ (f : Family). p.address.bits < 2 ^ width f) v4 h.fits, subst (λ (f : Family). p.length ≤ width f) v4 h.within)
+
+-- the text of an IPv4 prefix reads as that prefix
+pub prefix_in_printed : (p : PrefixParts) → p.address.family ≡ V4 → IsMasked p.address p.length → prefix_in (prefix_text p) ≡ Some p
+unfolding prefix_text
+prefix_in_printed p v4 h =
+    let s = small p v4 h in
+    prefix_in_spelled (octets_of p.address) p.length (octets_within p.address s.0) s.1 ∙ ap (λ (q : PrefixParts). Some q) (octets_prefix p v4 h)
+
+-- a prefix that a word spells is an IPv4 one, and its host bits are 0
+pub record IsPlain (p : PrefixParts) : Type 0 where
+  pub family : p.address.family ≡ V4
+  pub masked : IsMasked p.address p.length
+
+-- the prefix of an IPv4 address and a length
+pub prefix_of_plain : (a : Address) (n : ℕ) → a.family ≡ V4 → a.bits < 2 ^ 32 → n ≤ 32 → IsPlain (prefix_of a n)
+prefix_of_plain a n v4 small within =
+    let block = 2 ^ (width a.family - n) in
+    record {
+      family = v4;
+      masked = record {
+        fits = subst (λ (f : Family). a.bits / block * block < 2 ^ width f) (sym v4) (omega (arith, div-add-mod' a.bits block));
+        within = subst (λ (f : Family). n ≤ width f) (sym v4) within;
+        masked = mul-mod_left (a.bits / block) block;
+      };
+    }
+
+address_fits : (o : Octets) → AreOctets o → (address_of o).bits < 2 ^ 32
+address_fits o h = omega (arith, h.first, h.second, h.third, h.fourth)
+
+pub prefix_in_plain : (word : List ℕ) (p : PrefixParts) → prefix_in word ≡ Some p → IsPlain p
+prefix_in_plain word p e =
+    let f = prefix_in_found word p e in
+    let a = f.spells_address in
+    let octets : AreOctets a.octets = record { first = a.first; second = a.second; third = a.third; fourth = a.fourth } in
+    subst IsPlain (sym f.value) (prefix_of_plain f.address f.length (ap (λ (x : Address). x.family) a.value) (subst (λ (x : Address). x.bits < 2 ^ 32) (sym a.value) (address_fits a.octets octets)) f.within)
+
+regroup : (old a b c d e : List ℕ) → ((((old ++ (a ++ (46 ∷ []))) ++ (b ++ (46 ∷ []))) ++ (c ++ (46 ∷ []))) ++ (d ++ (47 ∷ []))) ++ e ≡ old ++ ((a ++ (46 ∷ b ++ (46 ∷ c ++ (46 ∷ d)))) ++ (47 ∷ e))
+regroup old a b c d e = simp append_assoc
+
+-- the five numbers of a prefix's text
+pub record AreNumbers (p : PrefixParts) (a b c d n : ℕ) : Type 0 where
+  pub first : a ≡ (octets_of p.address).first
+  pub second : b ≡ (octets_of p.address).second
+  pub third : c ≡ (octets_of p.address).third
+  pub fourth : d ≡ (octets_of p.address).fourth
+  pub length : n ≡ p.length
+
+pub numbers_of : (p : PrefixParts) (bits a b c d n : ℕ) → bits ≡ p.address.bits → a ≡ bits / 256 / 256 / 256 → b ≡ bits / 256 / 256 % 256 → c ≡ bits / 256 % 256 → d ≡ bits % 256 → n ≡ p.length → AreNumbers p a b c d n
+numbers_of p bits a b c d n e e1 e2 e3 e4 e5 = record {
+  first = e1 ∙ ap (λ (x : ℕ). x / 256 / 256 / 256) e;
+  second = e2 ∙ ap (λ (x : ℕ). x / 256 / 256 % 256) e;
+  third = e3 ∙ ap (λ (x : ℕ). x / 256 % 256) e;
+  fourth = e4 ∙ ap (λ (x : ℕ). x % 256) e;
+  length = e5;
+}
+
+-- a prefix's text, put to the end of a text part after part
+pub prefix_text_by_parts : (p : PrefixParts) (a b c d n : ℕ) → AreNumbers p a b c d n → (old one two three four five : List ℕ) → one ≡ old ++ (decimal a ++ (46 ∷ [])) → two ≡ one ++ (decimal b ++ (46 ∷ [])) → three ≡ two ++ (decimal c ++ (46 ∷ [])) → four ≡ three ++ (decimal d ++ (47 ∷ [])) → five ≡ four ++ decimal n → five ≡ old ++ prefix_text p
+unfolding prefix_text
+prefix_text_by_parts p a b c d n h old one two three four five e1 e2 e3 e4 e5 =
+    rw (e5, e4, e3, e2, e1, h.first, h.second, h.third, h.fourth, h.length) (regroup old (decimal (octets_of p.address).first) (decimal (octets_of p.address).second) (decimal (octets_of p.address).third) (decimal (octets_of p.address).fourth) (decimal p.length))
