@@ -1,3 +1,4 @@
 mod Examples
 pub mod OneMatch
 pub mod Walk
+pub mod Zeros

@@ -5,7 +5,9 @@
 
 mod checked;
 mod cut;
+mod form;
 mod item;
+mod read;
 mod tree;
 
 pub use checked::CheckedIos;
