@@ -2,3 +2,4 @@ mod Examples
 pub mod OneMatch
 pub mod Walk
 pub mod Zeros
+pub mod Rise

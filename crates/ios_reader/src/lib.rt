@@ -12,4 +12,5 @@ mod tree;
 
 pub use checked::CheckedIos;
 pub use item::{IosForm, IosItem, ItemSort, MapHeader, OtherItem, PrefixEntry};
+pub use read::read_ios;
 pub use tree::IosTree;
