@@ -3,3 +3,4 @@ pub mod OneMatch
 pub mod Walk
 pub mod Zeros
 pub mod Rise
+pub mod Sets

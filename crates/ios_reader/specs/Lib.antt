@@ -6,4 +6,5 @@ pub mod Spelling
 pub mod Tree
 pub mod Spans
 pub mod Profile
+pub mod Seen
 pub mod Meaning

@@ -8,6 +8,7 @@ mod cut;
 mod form;
 mod item;
 mod read;
+mod seen;
 mod tree;
 
 pub use checked::CheckedIos;
