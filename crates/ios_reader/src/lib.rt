@@ -5,6 +5,7 @@
 
 mod checked;
 mod cut;
+mod faults;
 mod form;
 mod item;
 mod read;
