@@ -4,3 +4,4 @@ pub mod Walk
 pub mod Zeros
 pub mod Rise
 pub mod Sets
+pub mod FirstFault

@@ -7,4 +7,5 @@ pub mod Tree
 pub mod Spans
 pub mod Profile
 pub mod Seen
+pub mod Faults
 pub mod Meaning

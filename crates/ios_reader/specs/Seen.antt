@@ -9,7 +9,7 @@ use Rattle.route_types.specs.Words.{when}
 use Rattle.route_types.specs.declared.fault.Cause.{Cause}
 use Rattle.route_types.specs.declared.fault.Cause.TheVariants.{UnknownForm, SequenceTwice, Undefined, SameKindTwice}
 use Rattle.ios_reader.specs.Forms.{first_some}
-use Rattle.ios_reader.specs.Profile.{sort_of_form, name_of_form, is_named, is_header_sort, is_line_sort, of_list, lists_named, names_in, has_no_form, is_inside, open_lines, is_match_prefix, is_set_local_preference, is_prefix_entry, is_map_header, first_fault_from}
+use Rattle.ios_reader.specs.Profile.{sort_of_form, name_of_form, is_named, is_header_sort, is_line_sort, is_list_sort, of_list, lists_named, names_in, has_no_form, is_inside, open_lines, is_match_prefix, is_set_local_preference, is_prefix_entry, is_map_header, first_fault_from}
 use Rattle.ios_reader.specs.declared.faults.Place.{Place}
 use Rattle.ios_reader.specs.declared.item.ItemSort.{ItemSort}
 use Rattle.ios_reader.specs.declared.item.ItemSort.TheVariants.{PrefixList, CommunityList, PathList, Map, Line}
@@ -99,3 +99,7 @@ pub record IsBehind (name : List ℕ) (before : List IosItem) (place : Place) (e
 -- the walk has come to the rest without a fault
 abbrev pub IsWalking : List ℕ → List IosItem → List IosItem → Place → (List ℕ → ℕ → Bool) → (List ℕ → ℕ → Bool) → Type 0
 IsWalking name all rest place entries headers = (before : List IosItem) × IsBehind name before place entries headers × (first_fault_from name all before rest ≡ first_fault_from name all [] all)
+
+-- the form is of the prefix list of this name
+abbrev pub of_list_form : List ℕ → IosForm → Bool
+of_list_form name form = is_list_sort (sort_of_form form) && is_named name (name_of_form form)

@@ -2,12 +2,10 @@ ghost use Rattle.std.specs.Prelude.{◌≡◌, List, [], ◌∷◌, ℕ, ◌||�
 ghost use Rattle.std.specs.List.{list_any};
 ghost use Rattle.ios_reader.specs.Profile.{sort_of_form, name_of_form, is_named, is_line_sort, is_prefix_entry, is_map_header, has_no_form, is_match_prefix, is_set_local_preference, of_list, lists_named, first_fault, heads, is_defined};
 ghost use Rattle.ios_reader.specs.Seen.{has_name, has_entry, repeats_given, name_passes, heads_form, reached_given, repeats_kind_given, names_missing_given, cause_of_tests, fault_given, place_behind};
-ghost use Rattle.ios_reader.specs.declared.item.IosItem.{IosItem};
 
-use crate::item::{IosForm, IosItem, ItemSort};
-use crate::seen::{add_entry, add_name, has_name};
-use route_types::{Cause, Memory, Row, Span};
-use std::alloc::Global;
+use crate::item::{IosForm, ItemSort};
+use crate::seen::{add_entry, has_name};
+use route_types::{Cause, Memory, Row};
 use std::collections::BTreeSet;
 
 // Where the walk stands: whether the open entry is one of the policy, and which lines it has.
@@ -20,7 +18,7 @@ pub(crate) struct Place {
 
 // ---- what a form says
 
-fn sort_of_form(form: &IosForm) -> ItemSort
+pub(crate) fn sort_of_form(form: &IosForm) -> ItemSort
     ensures { result ≡ sort_of_form form.now }
 {
     match form {
@@ -41,7 +39,7 @@ fn name_of_other(name: &Option<Row<u8>>) -> Option<&[u8]>
     }
 }
 
-fn name_of_form(form: &IosForm) -> Option<&[u8]>
+pub(crate) fn name_of_form(form: &IosForm) -> Option<&[u8]>
     ensures { option_map (λ n. n.now) result ≡ name_of_form form.now }
 {
     match form {
@@ -59,7 +57,7 @@ fn same_name(name: &[u8], other: &[u8]) -> bool
     name == other
 }
 
-fn is_line(form: &IosForm) -> bool
+pub(crate) fn is_line(form: &IosForm) -> bool
     ensures { result ≡ is_line_sort (sort_of_form form.now) }
 {
     match sort_of_form(form) {
@@ -80,7 +78,7 @@ fn stands_under(name: &[u8], form: &IosForm) -> bool
     }
 }
 
-fn heads(name: &[u8], form: &IosForm) -> bool
+pub(crate) fn heads(name: &[u8], form: &IosForm) -> bool
     ensures { result ≡ heads_form name.now form.now }
 {
     match sort_of_form(form) {
@@ -131,7 +129,7 @@ fn is_set_local_preference(form: &IosForm) -> bool
 // ---- the tests of a fault
 
 // Notes the number of an entry, and says whether it was there.
-fn note_number<'a>(
+pub(crate) fn note_number<'a>(
     entries: &mut BTreeSet<(&'a [u8], u64)>,
     headers: &mut BTreeSet<(&'a [u8], u64)>,
     form: &'a IosForm,
@@ -225,7 +223,7 @@ fn cause_of(unknown: bool, repeated: bool, missing: bool, again: bool) -> Option
     None
 }
 
-fn fault_of<'a>(
+pub(crate) fn fault_of<'a>(
     policy: &[u8],
     defined: &BTreeSet<&'a [u8]>,
     named: &BTreeSet<&'a [u8]>,
@@ -242,7 +240,7 @@ fn fault_of<'a>(
     cause_of(has_no_form(form), repeated, missing, repeats_kind(place, form))
 }
 
-fn place_behind(policy: &[u8], place: Place, form: &IosForm) -> Place
+pub(crate) fn place_behind(policy: &[u8], place: Place, form: &IosForm) -> Place
     ensures { result ≡ place_behind policy.now place form.now }
 {
     if is_line(form) {

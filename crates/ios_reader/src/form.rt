@@ -214,7 +214,7 @@ fn says_match_prefix(match_word: &Word, ip: &Word, address: &Word, list: &Word, 
         && is_name(name.text.as_slice())
 }
 
-fn one_name(alloc: Global, name: &[u8]) -> Result<Row<Row<u8>>, Memory>
+pub(crate) fn one_name(alloc: Global, name: &[u8]) -> Result<Row<Row<u8>>, Memory>
     ensures { IfOk result (λ r. r ≡ name.now ∷ []) }
 {
     let mut names = Row::new(alloc);

@@ -3,6 +3,7 @@
 //! statements, the forms, the tree, the profile and the meaning of a policy.
 #![tactic(auto)]
 
+mod check;
 mod checked;
 mod cut;
 mod faults;
@@ -12,6 +13,7 @@ mod read;
 mod seen;
 mod tree;
 
+pub use check::check_ios;
 pub use checked::CheckedIos;
 pub use item::{IosForm, IosItem, ItemSort, MapHeader, OtherItem, PrefixEntry};
 pub use read::read_ios;
