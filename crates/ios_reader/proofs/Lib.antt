@@ -5,3 +5,4 @@ pub mod Zeros
 pub mod Rise
 pub mod Sets
 pub mod FirstFault
+pub mod Spelled
