@@ -27,19 +27,19 @@ ascending_from c [] b h = tt
 ascending_from c (d ∷ ds) b h = (b, h)
 
 -- the place of a new member before the member d
-member_before : (c d : Community) (ds : List Community) → c.0 < d.0 → with_member c (d ∷ ds) ≡ c ∷ d ∷ ds
+pub member_before : (c d : Community) (ds : List Community) → c.0 < d.0 → with_member c (d ∷ ds) ≡ c ∷ d ∷ ds
 member_before c d ds h = rw (lt-ltb c.0 d.0 h) refl
 
-member_behind : (c d : Community) (ds : List Community) → d.0 < c.0 → with_member c (d ∷ ds) ≡ d ∷ with_member c ds
+pub member_behind : (c d : Community) (ds : List Community) → d.0 < c.0 → with_member c (d ∷ ds) ≡ d ∷ with_member c ds
 member_behind c d ds h = rw (le-ltb c.0 d.0 (omega arith), lt-ltb d.0 c.0 h) refl
 
-member_there : (c d : Community) (ds : List Community) → c.0 ≡ d.0 → with_member c (d ∷ ds) ≡ d ∷ ds
+pub member_there : (c d : Community) (ds : List Community) → c.0 ≡ d.0 → with_member c (d ∷ ds) ≡ d ∷ ds
 member_there c d ds h = rw (le-ltb c.0 d.0 (omega arith), le-ltb d.0 c.0 (omega arith)) refl
 
-same_community : (c d : Community) → c.0 ≡ d.0 → c ≡ d
+pub same_community : (c d : Community) → c.0 ≡ d.0 → c ≡ d
 same_community c d e = ap (λ (n : ℕ). record { 0 = n }) e
 
-abbrev Order : ℕ → ℕ → Type 0
+abbrev pub Order : ℕ → ℕ → Type 0
 Order a b = (a ≡ b) ⊎ ((a < b) ⊎ (b < a))
 
 below_first_at : (n : ℕ) (c d : Community) (ds : List Community) → n < c.0 → n < d.0 → Order c.0 d.0 → IsBelowFirst n (with_member c (d ∷ ds))
