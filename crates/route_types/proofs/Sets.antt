@@ -1,13 +1,13 @@
 -- A list in rising order without repeats is determined by its members, so the set of a list is the
 -- set of the same list in another order; and a list in order, without its repeats, is its set.
 use Rattle.std.proofs.Common.{◌≡◌, refl, sym, ap, subst, ◌∙◌, ℕ, ◌<◌, ◌≤◌, Bool, true, false, cond, ltb, eqb, ◌||◌, List, [], ◌∷◌, arith, inl, inr, ◌⊎◌}
-use Rattle.std.specs.Prelude.{◌==◌}
+use Rattle.std.specs.Prelude.{◌==◌, not, filter, ◌++◌}
 use Rattle.std.specs.List.{list_any, dedup}
 use Rattle.std.specs.List.Sorted.{IsPermutation}
 use Rattle.std.proofs.lemmas.Bool.{cases_order, eq-eqb, ne_eqb, lt-ltb, le-ltb, or_from}
 use Rattle.std.proofs.lemmas.List.Sorted.{list_any-IsPermutation}
 use Rattle.route_types.specs.declared.community.Community.{Community}
-use Rattle.route_types.specs.Community.{with_member, set_of, IsAscending}
+use Rattle.route_types.specs.Community.{RectParts, fits, with_member, set_of, set_after, IsAscending}
 
 -- the number is that of a member
 abbrev has : ℕ → List Community → Bool
@@ -143,3 +143,8 @@ ascending_same (x ∷ xs) (y ∷ ys) hx hy same = firsts_same x y xs ys hx hy sa
 pub set_of_permuted : (xs ys : List Community) → IsPermutation xs ys → set_of xs ≡ set_of ys
 set_of_permuted xs ys h =
     ascending_same (set_of xs) (set_of ys) (set_of_ascending xs) (set_of_ascending ys) (λ n. has-set_of n xs ∙ list_any-IsPermutation (λ c. c.0 == n) xs ys h ∙ sym (has-set_of n ys))
+
+-- what a change leaves is in rising order and without repeats
+pub set_after_ascending : (removed : List RectParts) (added old set : List Community) → set ≡ set_after removed added old → IsAscending set
+set_after_ascending removed added old set e =
+    subst IsAscending (sym e) (set_of_ascending (filter (λ c. not (list_any (λ r. fits r c) removed)) old ++ added))

@@ -138,7 +138,11 @@ fn set_of(list: Vec<Community>) -> Vec<Community>
 }
 
 // What the change makes of a set: what no removed rectangle fits, and what is added.
-pub(crate) fn set_after(alloc: Global, change: &CommChange, old: &[Community]) -> Result<Row<Community>, Memory>
+pub(crate) fn set_after(
+    alloc: Global,
+    change: &CommChange,
+    old: &[Community],
+) -> Result<Row<Community>, Memory>
     ensures { IfOk result (λ r. r ≡ set_after change.now.removed change.now.added old.now) }
 {
     let mut list = kept(alloc, change.removed.as_slice(), old)?;

@@ -16,7 +16,7 @@ mod statement;
 mod words;
 
 pub use address::{Address, Family, Prefix};
-pub use change::Change;
+pub use change::{Change, apply_change};
 pub use community::{CommChange, Community, Rect};
 pub use fault::{Cause, CheckFault, RouteFault};
 pub use memory::Memory;
