@@ -26,3 +26,6 @@ pub use route::{NextHop, Origin, Outcome, Route};
 pub use row::Row;
 pub use statement::{Ender, Span, Statement, Word};
 pub use words::{read_address, read_number, read_prefix};
+
+#[cfg(test)]
+mod tests;
