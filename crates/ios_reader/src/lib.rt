@@ -20,3 +20,6 @@ pub use item::{IosForm, IosItem, ItemSort, MapHeader, OtherItem, PrefixEntry};
 pub use laws::forms_are_spelled;
 pub use read::read_ios;
 pub use tree::IosTree;
+
+#[cfg(test)]
+mod tests;
