@@ -1,1 +1,8 @@
 mod Examples
+pub mod OneMatch
+pub mod Walk
+pub mod Zeros
+pub mod Rise
+pub mod Sets
+pub mod FirstFault
+pub mod Spelled
