@@ -1,5 +1,7 @@
 mod Examples
 pub mod OneMatch
+pub mod Sound
+pub mod Named
 pub mod Walk
 pub mod Zeros
 pub mod Rise

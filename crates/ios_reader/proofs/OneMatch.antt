@@ -71,10 +71,10 @@ open_lines-other lines (j ∷ js) i e =
       | false ↦ open_lines-other [] js i e
     ]
 
-lines_below-line : (i : IosItem) (is : List IosItem) → is_line i ≡ true → lines_below (i ∷ is) ≡ i.form ∷ lines_below is
+pub lines_below-line : (i : IosItem) (is : List IosItem) → is_line i ≡ true → lines_below (i ∷ is) ≡ i.form ∷ lines_below is
 lines_below-line i is e = ap (map (λ j. j.form)) (take_while-cons is_line i is) ∙ rw e refl
 
-lines_below-other : (i : IosItem) (is : List IosItem) → is_line i ≡ false → lines_below (i ∷ is) ≡ []
+pub lines_below-other : (i : IosItem) (is : List IosItem) → is_line i ≡ false → lines_below (i ∷ is) ≡ []
 lines_below-other i is e = ap (map (λ j. j.form)) (take_while-cons is_line i is) ∙ rw e refl
 
 count_more : (form : IosForm) (lines : List IosForm) → count_by is_match_prefix (form ∷ lines) ≡ cond (is_match_prefix form) 1 0 + count_by is_match_prefix lines
@@ -92,10 +92,10 @@ step_other : (i : IosItem) (is : List IosItem) (seen : Bool) → is_line i ≡ f
 step_other i is seen e = rw (lines_below-other i is e) (at_most_one seen)
 
 -- the cause of an item that is reached, or none
-abbrev if_reached : Bool → Option Cause → Option Cause
+abbrev pub if_reached : Bool → Option Cause → Option Cause
 if_reached b cause = elim b [ true ↦ cause | false ↦ None ]
 
-cause_none : (b : Bool) (cause : Option Cause) → b ≡ true → if_reached b cause ≡ None → cause ≡ None
+pub cause_none : (b : Bool) (cause : Option Cause) → b ≡ true → if_reached b cause ≡ None → cause ≡ None
 cause_none true cause e none = none
 cause_none false cause e none = absurd cc
 
