@@ -1,7 +1,7 @@
 -- The ranges of a list do not depend on the order in which its entries were gathered.
 use Rattle.std.proofs.Common.{◌≡◌, refl, sym, ap, ◌∙◌, ℕ, Bool, true, false, cond, ◌&&◌, ◌||◌, List, [], ◌∷◌}
 use Rattle.std.specs.Prelude.{bytes_eq, map, filter}
-use Rattle.std.specs.List.{list_any, All, AllByRecursion}
+use Rattle.std.specs.List.{list_any, AllByRecursion}
 use Rattle.std.specs.List.Sorted.{IsPermutation}
 use Rattle.std.proofs.lemmas.List.Sorted.{list_any-IsPermutation, All-permutation}
 use Rattle.std.proofs.lemmas.List.Elements.{All-from_recursion, recursion_from_All, All-filter, All-map}
@@ -28,11 +28,13 @@ named_passes : (f : RangeParts → Bool) (q : List ℕ) (es : List ListEntry) �
 named_passes f q [] = refl
 named_passes f q (e ∷ es) = kept_passes f q e es (bytes_eq q e.list) ∙ ap (λ (b : Bool). passes f q e || b) (named_passes f q es)
 
-listed_passes : (f : RangeParts → Bool) (q : List ℕ) (e : ListEntry) (rest : List RangeParts) (b : Bool) → list_any f (elim b [ true ↦ e.range ∷ rest | false ↦ rest ]) ≡ ((b && f e.range) || list_any f rest)
+listed_passes : (f : RangeParts → Bool) (q : List ℕ) (e : ListEntry) (rest : List RangeParts) (b : Bool)
+    → list_any f (elim b [ true ↦ e.range ∷ rest | false ↦ rest ]) ≡ ((b && f e.range) || list_any f rest)
 listed_passes f q e rest true = refl
 listed_passes f q e rest false = refl
 
-form_passes : (f : RangeParts → Bool) (q : List ℕ) (form : IosForm) (rest : List RangeParts) (es : List ListEntry) → list_any f rest ≡ list_any (passes f q) es → list_any f (ranges_from q form rest) ≡ list_any (passes f q) (list_entry_from form es)
+form_passes : (f : RangeParts → Bool) (q : List ℕ) (form : IosForm) (rest : List RangeParts) (es : List ListEntry) → list_any f rest ≡ list_any (passes f q) es
+    → list_any f (ranges_from q form rest) ≡ list_any (passes f q) (list_entry_from form es)
 form_passes f q (PrefixEntry e) rest es h = listed_passes f q e rest (bytes_eq q e.list) ∙ ap (λ (b : Bool). passes f q e || b) h
 form_passes f q (MapHeader m) rest es h = h
 form_passes f q (MatchPrefix names) rest es h = h
@@ -45,7 +47,8 @@ items_pass f q [] = refl
 items_pass f q (i ∷ is) = form_passes f q i.form (list_ranges q is) (list_entries is) (items_pass f q is)
 
 -- the ranges that were gathered in another order pass a test alike
-pub ranges_any : (f : RangeParts → Bool) (q : List ℕ) (items : List IosItem) (es : List ListEntry) → IsPermutation (list_entries items) es → list_any f (ranges_named q es) ≡ list_any f (list_ranges q items)
+pub ranges_any : (f : RangeParts → Bool) (q : List ℕ) (items : List IosItem) (es : List ListEntry) → IsPermutation (list_entries items) es
+    → list_any f (ranges_named q es) ≡ list_any f (list_ranges q items)
 ranges_any f q items es moved = named_passes f q es ∙ sym (list_any-IsPermutation (passes f q) (list_entries items) es moved) ∙ sym (items_pass f q items)
 
 abbrev IsPlainEntry : ListEntry → Type 0
@@ -59,12 +62,13 @@ form_plain (SetLocalPreference n) es plain rest = rest
 form_plain (Other o) es plain rest = rest
 
 -- the entries of plain items have plain ranges
-pub entries_plain : (items : List IosItem) → AllByRecursion HasPlainForm items → AllByRecursion (λ e. IsPlainRange e.range) (list_entries items)
-entries_plain [] plain = tt
-entries_plain (i ∷ is) plain = form_plain i.form (list_entries is) plain.0 (entries_plain is plain.1)
+pub list_entries_plain : (items : List IosItem) → AllByRecursion HasPlainForm items → AllByRecursion (λ e. IsPlainRange e.range) (list_entries items)
+list_entries_plain [] plain = tt
+list_entries_plain (i ∷ is) plain = form_plain i.form (list_entries is) plain.0 (list_entries_plain is plain.1)
 
 -- and so have they in another order
-pub ranges_plain : (q : List ℕ) (items : List IosItem) (es : List ListEntry) → IsPermutation (list_entries items) es → AllByRecursion HasPlainForm items → AllByRecursion IsPlainRange (ranges_named q es)
+pub ranges_plain : (q : List ℕ) (items : List IosItem) (es : List ListEntry) → IsPermutation (list_entries items) es → AllByRecursion HasPlainForm items
+    → AllByRecursion IsPlainRange (ranges_named q es)
 ranges_plain q items es moved plain =
-    let gathered = All-permutation IsPlainEntry (list_entries items) es moved (All-from_recursion IsPlainEntry (list_entries items) (entries_plain items plain)) in
+    let gathered = All-permutation IsPlainEntry (list_entries items) es moved (All-from_recursion IsPlainEntry (list_entries items) (list_entries_plain items plain)) in
     recursion_from_All IsPlainRange (ranges_named q es) (All-map IsPlainRange (λ (e : ListEntry). e.range) (filter (λ e. bytes_eq q e.list) es) (All-filter (λ e. bytes_eq q e.list) IsPlainEntry es gathered))
