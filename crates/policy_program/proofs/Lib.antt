@@ -2,3 +2,4 @@ pub mod Pushed
 pub mod RangeEq
 pub mod Lists
 pub mod Ranges
+pub mod PlainTree
