@@ -3,3 +3,4 @@ pub mod RangeEq
 pub mod Lists
 pub mod Ranges
 pub mod PlainTree
+pub mod PlainEntries
