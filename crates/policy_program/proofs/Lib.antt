@@ -4,3 +4,4 @@ pub mod Lists
 pub mod Ranges
 pub mod PlainTree
 pub mod PlainEntries
+pub mod Ordered
