@@ -5,3 +5,4 @@ pub mod Ranges
 pub mod PlainTree
 pub mod PlainEntries
 pub mod Ordered
+pub mod IosMeaning
