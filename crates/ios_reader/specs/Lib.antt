@@ -1,6 +1,11 @@
 pub mod Cut
+pub mod Lines
 pub mod Forms
+pub mod Steps
 pub mod Spelling
 pub mod Tree
+pub mod Spans
 pub mod Profile
+pub mod Seen
+pub mod Faults
 pub mod Meaning

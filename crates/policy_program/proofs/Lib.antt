@@ -4,3 +4,8 @@ pub mod Lists
 pub mod SetLaws
 pub mod PlanLaws
 pub mod WriteLaws
+pub mod Ranges
+pub mod PlainTree
+pub mod PlainEntries
+pub mod Ordered
+pub mod IosMeaning
