@@ -1,6 +1,6 @@
 -- Worked examples that the checker computes.
-use Rattle.std.proofs.Common.{◌≡◌, refl, List, [], ◌∷◌, ◌++◌, ℕ, true, false}
-use Rattle.std.specs.Prelude.{Some, None, codes, map}
+use Rattle.std.proofs.Common.{◌≡◌, refl, List, [], ◌∷◌, ◌++◌, ℕ, true}
+use Rattle.std.specs.Prelude.{None, codes, map}
 use Rattle.route_types.specs.Text.{lines_at}
 use Rattle.route_types.specs.Words.{number_in, prefix_in, parts_at, address_in}
 use Rattle.route_types.specs.Route.{RouteParts}
@@ -11,10 +11,9 @@ use Rattle.route_types.specs.declared.route.Outcome.TheVariants.{Reject, Accept}
 use Rattle.ios_reader.specs.Cut.{ios_cut, words_at}
 use Rattle.ios_reader.specs.Forms.{prefix_entry_in, map_header_in, match_prefix_in, set_local_preference_in}
 use Rattle.ios_reader.specs.Tree.{ios_tree, items_of, form_of}
-use Rattle.ios_reader.specs.Profile.{first_fault, is_defined}
+use Rattle.ios_reader.specs.Profile.{first_fault}
 use Rattle.ios_reader.specs.Meaning.{ios_meaning}
-use Rattle.ios_reader.specs.declared.item.IosForm.TheVariants.{PrefixEntry, MapHeader, MatchPrefix, SetLocalPreference, Other}
-use Rattle.ios_reader.specs.declared.item.IosItem.{IosItem}
+use Rattle.ios_reader.specs.declared.item.IosForm.TheVariants.{PrefixEntry, MapHeader, MatchPrefix, SetLocalPreference}
 
 abbrev sample : List ℕ
 sample = codes "ip prefix-list PL seq 5 permit 10.0.0.0/8 le 24" ++ (10 ∷ codes "route-map IN permit 10" ++ (10 ∷ codes " match ip address prefix-list PL" ++ (10 ∷ codes " set local-preference 200" ++ (10 ∷ []))))

@@ -1,15 +1,13 @@
 -- The walk for the first fault: what is kept of the items before gives the fault of the next one.
-use Rattle.std.proofs.Common.{◌≡◌, refl, sym, ap, ◌∙◌, subst, ℕ, ◌-◌, ◌<◌, ◌≤◌, Bool, true, false, not, ◌&&◌, ◌||◌, List, [], ◌∷◌, ◌++◌, length, get_or, take, drop, Option, Some, None, arith}
+use Rattle.std.proofs.Common.{◌≡◌, refl, sym, ap, ◌∙◌, subst, ℕ, ◌-◌, ◌<◌, ◌≤◌, Bool, true, false, not, ◌||◌, List, [], ◌∷◌, ◌++◌, length, get_or, take, drop, Option, Some, None, arith}
 use Rattle.std.specs.Prelude.{bytes_eq}
 use Rattle.std.specs.List.{list_any}
 use Rattle.std.proofs.lemmas.List.{take_all}
 use Rattle.std.proofs.lemmas.List.Folds.{list_any-append}
-use Rattle.route_types.specs.Words.{when}
 use Rattle.route_types.specs.declared.statement.Span.{Span}
 use Rattle.route_types.specs.declared.fault.Cause.{Cause}
-use Rattle.ios_reader.specs.Forms.{first_some}
-use Rattle.ios_reader.specs.Profile.{sort_of_form, name_of_form, is_named, is_line, is_line_sort, heads, of_list, lists_named, names_in, has_no_form, reached, reached_by_sort, repeats_number, names_missing, repeats_kind, cause_at, fault_at, is_inside, open_lines, is_match_prefix, is_set_local_preference, is_prefix_entry, is_map_header, first_fault_from, first_fault}
-use Rattle.ios_reader.specs.Seen.{repeats_given, heads_form, reached_by_name, reached_given, names_missing_given, repeats_kind_given, cause_of_tests, fault_given, place_behind, IsKnown, IsBehind, IsWalking}
+use Rattle.ios_reader.specs.Profile.{is_line, heads, of_list, lists_named, names_in, has_no_form, reached, repeats_number, names_missing, repeats_kind, fault_at, is_inside, open_lines, is_match_prefix, is_set_local_preference, is_prefix_entry, is_map_header, first_fault_from, first_fault}
+use Rattle.ios_reader.specs.Seen.{repeats_given, reached_given, names_missing_given, repeats_kind_given, cause_of_tests, fault_given, place_behind, IsKnown, IsBehind, IsWalking}
 use Rattle.ios_reader.specs.declared.faults.Place.{Place}
 use Rattle.ios_reader.specs.declared.item.ItemSort.{ItemSort}
 use Rattle.ios_reader.specs.declared.item.ItemSort.TheVariants.{PrefixList, CommunityList, PathList, Map, Line}

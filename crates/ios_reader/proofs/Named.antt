@@ -1,14 +1,14 @@
 -- In profile, the lists that the lines of the policy's entries name are there, and permit something.
-use Rattle.std.proofs.Common.{◌≡◌, refl, sym, ap, ◌∙◌, subst, ℕ, ◌≤◌, Bool, true, false, not, ◌&&◌, ◌||◌, List, [], ◌∷◌, ◌++◌, length, Option, Some, None, arith}
+use Rattle.std.proofs.Common.{◌≡◌, refl, sym, ◌∙◌, subst, ℕ, ◌≤◌, Bool, true, false, not, ◌||◌, List, [], ◌∷◌, ◌++◌, length, Option, Some, None, arith}
 use Rattle.std.specs.Prelude.{bytes_eq}
 use Rattle.std.specs.List.{list_any, AllByRecursion}
-use Rattle.std.proofs.lemmas.Bool.{or_parts, or_left, or_right, and_parts, not-false, cases_Bool}
+use Rattle.std.proofs.lemmas.Bool.{or_parts, or_left, or_right, not-false}
 use Rattle.std.proofs.lemmas.List.Folds.{list_any-append}
 use Rattle.std.proofs.lemmas.Slice.Eq.{bytes_eq-Decides}
 use Rattle.route_types.specs.Range.{RangeParts}
 use Rattle.route_types.specs.declared.statement.Span.{Span}
-use Rattle.ios_reader.specs.Profile.{is_line, heads, of_list, is_named, is_inside, lists_named, names_in, names_missing, repeats_number, repeats_kind, open_lines, cause_at, fault_at, first_fault_from, first_fault, InProfile}
-use Rattle.ios_reader.specs.Meaning.{Entry, entries_of, entry_from, lines_below, list_ranges, ranges_from}
+use Rattle.ios_reader.specs.Profile.{is_line, heads, of_list, is_named, is_inside, lists_named, names_in, names_missing, repeats_kind, open_lines, cause_at, fault_at, first_fault_from, first_fault, InProfile}
+use Rattle.ios_reader.specs.Meaning.{Entry, entries_of, entry_from, lines_below, list_ranges}
 use Rattle.ios_reader.specs.declared.item.ItemSort.{ItemSort}
 use Rattle.ios_reader.specs.declared.item.ItemSort.TheVariants.{PrefixList, CommunityList, PathList, Map, Line}
 use Rattle.ios_reader.specs.declared.item.IosForm.{IosForm}

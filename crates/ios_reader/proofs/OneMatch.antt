@@ -1,6 +1,6 @@
 -- In profile, an entry has at most one match line.
-use Rattle.std.proofs.Common.{◌≡◌, refl, sym, ap, ◌∙◌, subst, ℕ, ◌+◌, ◌≤◌, Bool, true, false, cond, ◌||◌, List, [], ◌∷◌, ◌++◌, Option, Some, None, arith}
-use Rattle.std.specs.Prelude.{map, take_while, count_by, bytes_eq}
+use Rattle.std.proofs.Common.{◌≡◌, refl, sym, ap, ◌∙◌, ℕ, ◌+◌, ◌≤◌, Bool, true, false, cond, ◌||◌, List, [], ◌∷◌, ◌++◌, Option, Some, None, arith}
+use Rattle.std.specs.Prelude.{map, count_by, bytes_eq}
 use Rattle.std.specs.List.{list_any, AllByRecursion}
 use Rattle.std.proofs.lemmas.List.Sums.{take_while-cons, sum_by-cons}
 use Rattle.std.proofs.lemmas.List.Folds.{list_any-append}
@@ -9,7 +9,7 @@ use Rattle.route_types.specs.declared.statement.Span.{Span}
 use Rattle.route_types.specs.declared.fault.Cause.{Cause}
 use Rattle.route_types.specs.declared.fault.Cause.TheVariants.{UnknownForm, SequenceTwice, Undefined, SameKindTwice}
 use Rattle.ios_reader.specs.Forms.{first_some}
-use Rattle.ios_reader.specs.Profile.{is_line, is_line_sort, sort_of_form, heads, is_inside, open_lines, is_match_prefix, names_missing, cause_at, fault_at, first_fault_from, first_fault, InProfile}
+use Rattle.ios_reader.specs.Profile.{is_line, heads, is_inside, open_lines, is_match_prefix, names_missing, cause_at, fault_at, first_fault_from, first_fault, InProfile}
 use Rattle.ios_reader.specs.Meaning.{Entry, entries_of, entry_from, lines_below}
 use Rattle.ios_reader.specs.declared.item.ItemSort.{ItemSort}
 use Rattle.ios_reader.specs.declared.item.ItemSort.TheVariants.{PrefixList, CommunityList, PathList, Map, Line}
@@ -134,7 +134,6 @@ step name all is before seen (MapHeader h) s ih inside e fault sound = step_othe
 step name all is before seen (MatchPrefix names) s ih inside e fault sound = step_match name all is before seen names s ih inside e fault sound
 step name all is before seen (SetLocalPreference n) s ih inside e fault sound = step_set name all is before seen n s ih inside e sound
 step name all is before seen (Other o) s ih inside e fault sound = step_unknown name all is before seen o.sort o.name s inside fault
-
 
 -- how many match lines stand right below, with those of the open entry: at most one
 lines_ok : (name : List ℕ) (all is before : List IosItem) (seen : Bool) → is_inside name false before ≡ true → list_any is_match_prefix (open_lines [] before) ≡ seen → first_fault_from name all before is ≡ None → count_by is_match_prefix (lines_below is) + cond seen 1 0 ≤ 1

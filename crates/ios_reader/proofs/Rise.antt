@@ -1,12 +1,12 @@
 -- The spans of words, statements and items rise, and lie within the text.
-use Rattle.std.proofs.Common.{◌≡◌, refl, sym, ap, ◌∙◌, subst, ℕ, suc, ◌+◌, ◌<◌, ◌≤◌, Bool, true, false, ◌&&◌, List, [], ◌∷◌, ◌++◌, length, Option, Some, None, Result, Ok, Err, arith}
+use Rattle.std.proofs.Common.{◌≡◌, refl, sym, subst, ℕ, ◌+◌, ◌<◌, ◌≤◌, Bool, true, false, ◌&&◌, List, [], ◌∷◌, ◌++◌, length, Option, Some, None, Result, Ok, Err, arith}
 use Rattle.std.specs.Prelude.{flat_map, ◌==◌, IfOk}
 use Rattle.std.proofs.lemmas.List.Concat.{flat_map-cons}
-use Rattle.route_types.specs.Text.{is_blank, starts_with_byte, Line, lines_at, lines_from_byte, starting_at, onto_line}
+use Rattle.route_types.specs.Text.{is_blank, starts_with_byte, Line, lines_at, starting_at, onto_line}
 use Rattle.route_types.specs.declared.statement.Word.{Word}
 use Rattle.route_types.specs.declared.statement.Statement.{Statement}
 use Rattle.route_types.specs.declared.statement.Ender.TheVariants.{Line as EndsLine}
-use Rattle.ios_reader.specs.Cut.{words_at, words_from_byte, onto_word, word_of_byte, goes_on, end_of, depth_of, statement_of, statement_of_words, ios_cut, texts}
+use Rattle.ios_reader.specs.Cut.{words_at, onto_word, word_of_byte, goes_on, end_of, depth_of, statement_of, statement_of_words, ios_cut, texts}
 use Rattle.ios_reader.specs.Tree.{sort_of, belongs, opens, form_of, items_of, ios_tree}
 use Rattle.ios_reader.specs.Spans.{RiseFrom, SpansRise}
 use Rattle.ios_reader.specs.declared.item.ItemSort.{ItemSort}

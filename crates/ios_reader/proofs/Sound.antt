@@ -1,15 +1,15 @@
 -- What a policy in profile has besides: its entries' numbers differ, and the lists that its lines name
 -- are there and permit something.
-use Rattle.std.proofs.Common.{◌≡◌, refl, sym, ap, ◌∙◌, subst, ℕ, Bool, true, false, not, ◌&&◌, ◌||◌, List, [], ◌∷◌, ◌++◌, map, Option, Some, None, arith}
+use Rattle.std.proofs.Common.{◌≡◌, refl, sym, ap, ◌∙◌, subst, ℕ, Bool, true, false, ◌&&◌, List, [], ◌∷◌, ◌++◌, map, None}
 use Rattle.std.specs.Prelude.{bytes_eq, nat_eq, ◌==◌}
 use Rattle.std.specs.Cmp.{nat_eq_equiv}
 use Rattle.std.specs.List.{list_any, AllByRecursion, IsDistinct}
-use Rattle.std.proofs.lemmas.Bool.{or_parts, and_parts, and_cases}
+use Rattle.std.proofs.lemmas.Bool.{or_parts}
 use Rattle.std.proofs.lemmas.List.Folds.{list_any-append}
 use Rattle.std.proofs.lemmas.Map.Keys.{IsDistinct-cons}
 use Rattle.std.proofs.lemmas.Slice.Eq.{bytes_eq-Decides}
 use Rattle.route_types.specs.declared.statement.Span.{Span}
-use Rattle.ios_reader.specs.Profile.{is_map_header, names_missing, repeats_kind, open_lines, cause_at, fault_at, first_fault_from, first_fault, InProfile}
+use Rattle.ios_reader.specs.Profile.{is_map_header, cause_at, fault_at, first_fault_from, first_fault, InProfile}
 use Rattle.ios_reader.specs.Meaning.{Entry, entries_of, entry_from, lines_below}
 use Rattle.ios_reader.specs.declared.item.IosForm.{IosForm}
 use Rattle.ios_reader.specs.declared.item.IosForm.TheVariants.{PrefixEntry, MapHeader, MatchPrefix, SetLocalPreference, Other}

@@ -1,14 +1,14 @@
 -- The forms, both ways: a form that is found is spelled by the words, and what is spelled is found.
-use Rattle.std.proofs.Common.{◌≡◌, refl, sym, ap, ◌∙◌, subst, ℕ, ◌-◌, ◌^◌, ◌<◌, ◌≤◌, Bool, true, false, ◌&&◌, ◌||◌, List, [], ◌∷◌, ◌++◌, Option, Some, None, arith, inl, inr, lit<}
-use Rattle.std.specs.Prelude.{◌⊎◌, codes, decimal, bytes_eq, nat_le, IsTrue}
+use Rattle.std.proofs.Common.{◌≡◌, refl, sym, ap, ◌∙◌, subst, ℕ, ◌-◌, ◌^◌, ◌≤◌, Bool, true, false, ◌&&◌, List, [], ◌∷◌, ◌++◌, Option, Some, None, arith, inl, inr, lit<}
+use Rattle.std.specs.Prelude.{codes, decimal, bytes_eq, nat_le}
 use Rattle.std.proofs.lemmas.Bool.{and_parts, leb-true, le-leb}
 use Rattle.std.proofs.lemmas.Slice.Eq.{bytes_eq-Decides}
-use Rattle.route_types.specs.Words.{◌>>=◌, when, number_in, prefix_in, IsPrefix, IsNumber, address_of}
+use Rattle.route_types.specs.Words.{◌>>=◌, when, number_in, prefix_in, IsPrefix, IsNumber}
 use Rattle.route_types.specs.Address.{PrefixParts, prefix_of}
 use Rattle.route_types.proofs.Numbers.{bind_found, number_in_found, number_in_spelled}
 use Rattle.route_types.proofs.Spelled.{prefix_in_found, prefix_in_spelled}
-use Rattle.ios_reader.specs.Forms.{first_some, is_name, list_name, one_bound_in, bounds_in, permit_in, prefix_entry_in, map_header_in, match_prefix_in, set_local_preference_in}
-use Rattle.ios_reader.specs.Spelling.{SpellBounds, SpellPrefixEntry, action_word, SpellMapHeader, SpellMatchPrefix, SpellSetLocalPreference, Spell}
+use Rattle.ios_reader.specs.Forms.{first_some, is_name, list_name, bounds_in, permit_in, prefix_entry_in, map_header_in, match_prefix_in, set_local_preference_in}
+use Rattle.ios_reader.specs.Spelling.{SpellBounds, action_word, Spell}
 use Rattle.ios_reader.specs.Profile.{sort_of_form}
 use Rattle.ios_reader.specs.Tree.{known_form}
 use Rattle.ios_reader.specs.declared.item.ItemSort.{ItemSort}

@@ -1,14 +1,13 @@
 -- The cut takes whole words and whole lines: what the definitions say of a word or a line in front of
 -- what follows.
-use Rattle.std.proofs.Common.{◌≡◌, refl, sym, ap, ◌∙◌, subst, ℕ, suc, ◌+◌, ◌-◌, ◌<◌, ◌≤◌, Bool, true, false, not, cond, ◌&&◌, eqb, ltb, List, [], ◌∷◌, ◌++◌, length, get_or, take, drop, Option, Some, None, append_assoc, add-one, arith}
+use Rattle.std.proofs.Common.{◌≡◌, refl, sym, ap, ◌∙◌, subst, ℕ, suc, ◌+◌, ◌-◌, ◌<◌, ◌≤◌, Bool, true, false, not, cond, ◌&&◌, ltb, List, [], ◌∷◌, ◌++◌, length, get_or, take, drop, Option, Some, None, append_assoc, add-one, arith}
 use Rattle.std.specs.Prelude.{flat_map, ◌==◌}
 use Rattle.std.specs.List.{position, position_or_len, prefix_len}
-use Rattle.std.proofs.lemmas.Bool.{eq-eqb, ne_eqb, eqb-true, ltb-true, ltb-false, and_parts, and_right}
+use Rattle.std.proofs.lemmas.Bool.{eq-eqb, ne_eqb, ltb-true, ltb-false, and_parts, and_right}
 use Rattle.std.proofs.lemmas.List.Sums.{prefix_len-le-length}
 use Rattle.std.proofs.lemmas.List.{take_all, drop-drop, length-drop, append-nil}
 use Rattle.std.proofs.lemmas.List.Concat.{flat_map-cons}
-use Rattle.route_types.specs.Text.{is_blank, starts_with_byte, Line, lines_at, lines_from_byte, starting_at, onto_line}
-use Rattle.route_types.specs.declared.statement.Span.{Span}
+use Rattle.route_types.specs.Text.{is_blank, starts_with_byte, Line, lines_at, lines_from_byte}
 use Rattle.route_types.specs.declared.statement.Word.{Word}
 use Rattle.route_types.specs.declared.statement.Statement.{Statement}
 use Rattle.ios_reader.specs.Cut.{words_at, words_from_byte, goes_on, statement_of}
@@ -150,7 +149,7 @@ byte_step p c cs false plain e size within is = goes_behind p c (line_size (c �
 
 line_step : (p c : ℕ) (cs : List ℕ) (b : Bool) → (c == 10) ≡ b → line_size (c ∷ cs) < length (c ∷ cs) → (line_size cs < length cs → lines_at (p + 1) cs ≡ line_then (p + 1) (line_size cs) cs) → lines_from_byte p c cs (lines_at (p + 1) cs) ≡ line_then p (line_size (c ∷ cs)) (c ∷ cs)
 line_step p c cs true e h ih = here_ends p c (line_size (c ∷ cs)) cs e (size_here c cs e)
-line_step p c cs false e h ih = 
+line_step p c cs false e h ih =
     let size = size_on c cs e in
     let within : line_size cs < length cs = omega (arith, size) in
     byte_step p c cs (is_return c cs) refl e size within (ih within)

@@ -2,7 +2,6 @@
 -- blanks. A line without words is dropped, and so is one whose first word starts with `!`.
 use Rattle.std.specs.Prelude.{ℕ, ◌+◌, Bool, true, false, not, ◌==◌, List, [], ◌∷◌, flat_map, map}
 use Rattle.route_types.specs.Text.{is_blank, starts_with_byte, Line, lines_at}
-use Rattle.route_types.specs.declared.statement.Span.{Span}
 use Rattle.route_types.specs.declared.statement.Word.{Word}
 use Rattle.route_types.specs.declared.statement.Ender.TheVariants.{Line as EndsLine}
 use Rattle.route_types.specs.declared.statement.Statement.{Statement}

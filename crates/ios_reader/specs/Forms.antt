@@ -1,5 +1,5 @@
 -- The functions that find which form a statement has. `Spelling` says what the forms are.
-use Rattle.std.specs.Prelude.{ℕ, ◌-◌, ◌^◌, Bool, true, false, ◌&&◌, ◌||◌, not, nat_le, ◌==◌, List, [], ◌∷◌, Option, Some, None, codes, bytes_eq, option_map}
+use Rattle.std.specs.Prelude.{ℕ, ◌-◌, ◌^◌, Bool, true, false, ◌&&◌, not, nat_le, ◌==◌, List, [], ◌∷◌, Option, Some, None, codes, bytes_eq}
 use Rattle.std.specs.List.{list_any, list_all}
 use Rattle.route_types.specs.Words.{◌>>=◌, when, is_digit, number_in, prefix_in}
 use Rattle.ios_reader.specs.declared.item.IosForm.{IosForm}

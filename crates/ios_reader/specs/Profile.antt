@@ -1,7 +1,7 @@
 -- The profile of an IOS policy: which items it reaches, the four causes, each a test of its own on the
 -- whole tree, and the first fault in text order.
-use Rattle.std.specs.Prelude.{◌≡◌, ℕ, Bool, true, false, ◌&&◌, not, ◌==◌, List, [], ◌∷◌, ◌++◌, Option, Some, None, bytes_eq, IsTrue, is_some}
-use Rattle.std.specs.List.{list_any, list_all}
+use Rattle.std.specs.Prelude.{◌≡◌, ℕ, Bool, true, false, ◌&&◌, not, ◌==◌, List, [], ◌∷◌, ◌++◌, Option, Some, None, bytes_eq}
+use Rattle.std.specs.List.{list_any}
 use Rattle.route_types.specs.Words.{when}
 use Rattle.route_types.specs.declared.statement.Span.{Span}
 use Rattle.route_types.specs.declared.fault.Cause.{Cause}

@@ -2,7 +2,6 @@
 -- 'ip prefix-list', 'route-map', 'match ip address', 'set local-preference').
 use Rattle.std.specs.Prelude.{◌≡◌, ℕ, ◌-◌, ◌≤◌, ◌^◌, Bool, true, false, IsTrue, ◌⊎◌, List, [], ◌∷◌, codes, decimal}
 use Rattle.route_types.specs.Words.{IsPrefix}
-use Rattle.route_types.specs.Address.{PrefixParts}
 use Rattle.ios_reader.specs.Forms.{is_name, list_name}
 use Rattle.ios_reader.specs.declared.item.IosForm.{IosForm}
 use Rattle.ios_reader.specs.declared.item.IosForm.TheVariants.{PrefixEntry, MapHeader, MatchPrefix, SetLocalPreference, Other}

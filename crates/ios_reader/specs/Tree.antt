@@ -1,6 +1,6 @@
 -- The tree of an IOS text: which statements are policy items, under which name they stand, and the
 -- form of each. What belongs to no policy is foreign and dropped.
-use Rattle.std.specs.Prelude.{ℕ, zero, suc, Bool, true, false, ◌&&◌, ◌||◌, not, ◌==◌, List, [], ◌∷◌, Option, Some, None, codes, bytes_eq, option_map, slice_get, drop}
+use Rattle.std.specs.Prelude.{ℕ, Bool, true, false, ◌&&◌, ◌||◌, ◌==◌, List, [], ◌∷◌, Option, Some, None, codes, bytes_eq, option_map, slice_get, drop}
 use Rattle.std.specs.List.{list_any}
 use Rattle.route_types.specs.declared.statement.Statement.{Statement}
 use Rattle.ios_reader.specs.Cut.{texts, ios_cut}

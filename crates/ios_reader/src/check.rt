@@ -63,7 +63,11 @@ fn note_named<'a>(
 }
 
 // The lists that the lines of the policy name.
-fn lists_named<'a>(alloc: Global, policy: &[u8], items: &'a [IosItem]) -> Result<BTreeSet<&'a [u8]>, Memory>
+fn lists_named<'a>(
+    alloc: Global,
+    policy: &[u8],
+    items: &'a [IosItem],
+) -> Result<BTreeSet<&'a [u8]>, Memory>
     ensures { IfOk result (λ s. (q : List ℕ) → has_name s q ≡ list_any (λ l. bytes_eq l q) (lists_named policy.now false items.now)) }
 {
     let mut named = BTreeSet::new(alloc);
@@ -113,7 +117,11 @@ fn lists_defined<'a>(alloc: Global, items: &'a [IosItem]) -> Result<BTreeSet<&'a
 
 // ---- the first fault
 
-fn first_fault<'a>(alloc: Global, policy: &'a [u8], items: &'a [IosItem]) -> Result<Option<(Span, Cause)>, Memory>
+fn first_fault<'a>(
+    alloc: Global,
+    policy: &'a [u8],
+    items: &'a [IosItem],
+) -> Result<Option<(Span, Cause)>, Memory>
     ensures { IfOk result (λ o. o ≡ first_fault policy.now items.now) }
 {
     let defined = lists_defined(alloc, items)?;

@@ -43,7 +43,12 @@ fn without_return(line: &[u8]) -> &[u8]
     line
 }
 
-fn push_line(alloc: Global, statements: &mut Row<Statement>, start: u64, line: &[u8]) -> Result<(), Memory>
+fn push_line(
+    alloc: Global,
+    statements: &mut Row<Statement>,
+    start: u64,
+    line: &[u8],
+) -> Result<(), Memory>
     requires { start + length line.now < 2 ^ 64 }
     ensures { OnOk result (statements.new ≡ statements.old ++ statement_of (record { start = start; bytes = line.now })) }
 {

@@ -156,7 +156,12 @@ fn name_is_in<'a>(names: &BTreeSet<&'a [u8]>, name: Option<&'a [u8]>) -> bool
     }
 }
 
-fn is_reached<'a>(policy: &[u8], named: &BTreeSet<&'a [u8]>, inside: bool, form: &'a IosForm) -> bool
+fn is_reached<'a>(
+    policy: &[u8],
+    named: &BTreeSet<&'a [u8]>,
+    inside: bool,
+    form: &'a IosForm,
+) -> bool
     ensures { result ≡ reached_given policy.now (has_name named.now) inside form.now }
 {
     match sort_of_form(form) {
@@ -237,7 +242,12 @@ pub(crate) fn fault_of<'a>(
         return None;
     }
     let missing = names_missing(defined, form);
-    cause_of(has_no_form(form), repeated, missing, repeats_kind(place, form))
+    cause_of(
+        has_no_form(form),
+        repeated,
+        missing,
+        repeats_kind(place, form),
+    )
 }
 
 pub(crate) fn place_behind(policy: &[u8], place: Place, form: &IosForm) -> Place

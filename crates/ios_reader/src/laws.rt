@@ -12,5 +12,4 @@ pub fn forms_are_spelled()
     ensures found { (ws : List (List ℕ)) (form : IosForm) (sort : ItemSort) → known_form sort ws ≡ Some form → Spell ws form }
     // What is spelled is found.
     ensures only { (ws : List (List ℕ)) (form : IosForm) → Spell ws form → known_form (sort_of_form form) ws ≡ Some form }
-{
-}
+{}

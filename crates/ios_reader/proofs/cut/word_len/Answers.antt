@@ -1,6 +1,6 @@
 use Rattle.std.proofs.Common.{sym}
 use Rattle.route_types.specs.Text.{is_blank}
-use Rattle.ios_reader.proofs.Walk.{position_some, position_none}
+use Rattle.ios_reader.proofs.Walk.{position_none}
 use Rattle.ios_reader.proofs.cut.word_len.Goals as goal
 
 pub returns-in-None : goal.returns-in-None

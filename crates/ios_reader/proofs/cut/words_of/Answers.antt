@@ -2,7 +2,7 @@ use Rattle.std.proofs.Common.{◌∙◌, sym, arith}
 use Rattle.std.proofs.lemmas.List.Sums.{prefix_len-le-length}
 use Rattle.std.specs.Prelude.{not}
 use Rattle.route_types.specs.Text.{is_blank}
-use Rattle.ios_reader.proofs.Walk.{takes_word, skips_blank}
+use Rattle.ios_reader.proofs.Walk.{takes_word}
 use Rattle.ios_reader.proofs.cut.words_of.Goals as goal
 
 pub split_at-requires : goal.split_at-requires
