@@ -86,7 +86,7 @@ when_found : {A : Type 0} (b : Bool) (x y : A) → when b x ≡ Some y → (b �
 when_found true x y e = (refl, some_is x y e)
 when_found false x y e = absurd cc
 
-when_true : {A : Type 0} (b : Bool) (x : A) → b ≡ true → when b x ≡ Some x
+pub when_true : {A : Type 0} (b : Bool) (x : A) → b ≡ true → when b x ≡ Some x
 when_true true x e = refl
 when_true false x e = absurd cc
 

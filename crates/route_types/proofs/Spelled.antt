@@ -13,7 +13,8 @@ use Rattle.route_types.proofs.Numbers.{bind_found, some_is, number_in_spelled, n
 same_byte : (b : ℕ) → (b == b) ≡ true
 same_byte b = eq-eqb b b refl
 
-ap2 : {A B C : Type 0} (f : A → B → C) {a x : A} {b y : B} → a ≡ x → b ≡ y → f a b ≡ f x y
+-- two arguments replaced by equal ones
+pub ap2 : {A B C : Type 0} (f : A → B → C) {a x : A} {b y : B} → a ≡ x → b ≡ y → f a b ≡ f x y
 ap2 f {a} {x} {b} {y} p q = ap (λ z. f z b) p ∙ ap (λ z. f x z) q
 
 -- what stands before the byte, where the byte does not stand in it
