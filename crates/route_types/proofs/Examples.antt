@@ -1,10 +1,8 @@
 -- Worked examples that the checker computes.
-use Rattle.std.proofs.Common.{◌≡◌, refl, List, [], ◌∷◌, ◌++◌, ℕ, Bool, true, false, map}
+use Rattle.std.proofs.Common.{◌≡◌, refl, [], ◌∷◌, ◌++◌, map}
 use Rattle.std.specs.Prelude.{Some, None, codes}
 use Rattle.route_types.specs.Text.{lines_at}
 use Rattle.route_types.specs.Words.{number_in, prefix_in, parts_at, address_in}
-use Rattle.route_types.specs.Range.{in_range}
-use Rattle.route_types.specs.Address.{prefix_of}
 use Rattle.route_types.specs.declared.address.Family.TheVariants.{V4}
 
 two_lines : map (λ l. l.bytes) (lines_at 0 (codes "a" ++ (13 ∷ 10 ∷ codes "bc" ++ (13 ∷ [])))) ≡ codes "a" ∷ (codes "bc" ++ (13 ∷ [])) ∷ []

@@ -1,5 +1,5 @@
 -- A number's text is found as that number, and what is found is spelled so.
-use Rattle.std.proofs.Common.{◌≡◌, refl, sym, ap, subst, ◌∙◌, ℕ, zero, suc, ◌+◌, ◌-◌, ◌*◌, ◌^◌, ◌<◌, ◌≤◌, Bool, true, false, cond, ◌&&◌, nat_le, eqb, List, [], ◌∷◌, ◌++◌, length, get_or, Option, Some, None, arith, rules, inl, inr, ◌⊎◌}
+use Rattle.std.proofs.Common.{◌≡◌, refl, sym, ap, subst, ◌∙◌, ℕ, zero, suc, ◌+◌, ◌-◌, ◌*◌, ◌^◌, ◌<◌, ◌≤◌, Bool, true, false, cond, ◌&&◌, nat_le, List, [], ◌∷◌, length, get_or, Option, Some, None, arith, rules, inl, inr, ◌⊎◌}
 use Rattle.std.specs.Prelude.{decimal, ◌==◌, IfSome}
 use Rattle.std.specs.List.{list_any}
 use Rattle.std.proofs.lemmas.Str.Parse.{IsNumeralModel, numerals_by_fold}
@@ -86,7 +86,7 @@ when_found : {A : Type 0} (b : Bool) (x y : A) → when b x ≡ Some y → (b �
 when_found true x y e = (refl, some_is x y e)
 when_found false x y e = absurd cc
 
-when_true : {A : Type 0} (b : Bool) (x : A) → b ≡ true → when b x ≡ Some x
+pub when_true : {A : Type 0} (b : Bool) (x : A) → b ≡ true → when b x ≡ Some x
 when_true true x e = refl
 when_true false x e = absurd cc
 

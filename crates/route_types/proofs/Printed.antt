@@ -1,22 +1,19 @@
 -- A printed prefix reads as itself.
-use Rattle.std.proofs.Common.{◌≡◌, refl, sym, ap, subst, ◌∙◌, ℕ, Bool, false, ◌||◌, ◌+◌, ◌-◌, ◌*◌, ◌/◌, ◌%◌, ◌^◌, ◌<◌, ◌≤◌, List, [], ◌∷◌, ◌++◌, Some, arith, append_assoc}
+use Rattle.std.proofs.Common.{◌≡◌, sym, ap, subst, ◌∙◌, ℕ, Bool, false, ◌||◌, ◌+◌, ◌-◌, ◌*◌, ◌/◌, ◌%◌, ◌^◌, ◌<◌, ◌≤◌, List, [], ◌∷◌, ◌++◌, Some, arith, append_assoc}
 use Rattle.std.specs.Prelude.{decimal}
 use Rattle.std.specs.List.{list_any}
 use Rattle.std.proofs.lemmas.Bool.{or_from}
 use Rattle.std.proofs.lemmas.List.Folds.{list_any-append}
 use Rattle.std.proofs.Math.Nat.{mul-mod_left}
 use Rattle.std.proofs.lemmas.Nat.{div-add-mod'}
-use Rattle.route_types.specs.Address.{PrefixParts, IsMasked, width, prefix_of, masked_address}
+use Rattle.route_types.specs.Address.{PrefixParts, IsMasked, width, prefix_of}
 use Rattle.route_types.specs.Words.{Octets, dotted, address_of, prefix_in}
 use Rattle.route_types.specs.Print.{octets_of, prefix_text}
 use Rattle.route_types.specs.declared.address.Address.{Address}
 use Rattle.route_types.specs.declared.address.Family.{Family}
 use Rattle.route_types.specs.declared.address.Family.TheVariants.{V4}
-use Rattle.route_types.proofs.Spelled.{AreOctets, prefix_in_spelled, prefix_in_found}
+use Rattle.route_types.proofs.Spelled.{ap2, AreOctets, prefix_in_spelled, prefix_in_found}
 use Rattle.route_types.proofs.Numbers.{StartsWithDigit, decimal_avoids, decimal_starts}
-
-ap2 : {A B C : Type 0} (f : A → B → C) {a x : A} {b y : B} → a ≡ x → b ≡ y → f a b ≡ f x y
-ap2 f {a} {x} {b} {y} p q = ap (λ z. f z b) p ∙ ap (λ z. f x z) q
 
 multiple : (n m : ℕ) → n % m ≡ 0 → n / m * m ≡ n
 multiple n m e = omega (arith, div-add-mod' n m, e)
@@ -91,14 +88,16 @@ pub record AreNumbers (p : PrefixParts) (a b c d n : ℕ) : Type 0 where
   pub fourth : d ≡ (octets_of p.address).fourth
   pub length : n ≡ p.length
 
-pub numbers_of : (p : PrefixParts) (bits a b c d n : ℕ) → bits ≡ p.address.bits → a ≡ bits / 256 / 256 / 256 → b ≡ bits / 256 / 256 % 256 → c ≡ bits / 256 % 256 → d ≡ bits % 256 → n ≡ p.length → AreNumbers p a b c d n
-numbers_of p bits a b c d n e e1 e2 e3 e4 e5 = record {
-  first = e1 ∙ ap (λ (x : ℕ). x / 256 / 256 / 256) e;
-  second = e2 ∙ ap (λ (x : ℕ). x / 256 / 256 % 256) e;
-  third = e3 ∙ ap (λ (x : ℕ). x / 256 % 256) e;
-  fourth = e4 ∙ ap (λ (x : ℕ). x % 256) e;
-  length = e5;
-}
+pub numbers_of : (p : PrefixParts) (bits a b c d n : ℕ) → bits ≡ p.address.bits → octets_of (record { family = V4; bits = bits }) ≡ record { first = a; second = b; third = c; fourth = d } → n ≡ p.length → AreNumbers p a b c d n
+numbers_of p bits a b c d n e o l =
+    let q : octets_of p.address ≡ record { first = a; second = b; third = c; fourth = d } = ap (λ (x : ℕ). octets_of (record { family = V4; bits = x })) (sym e) ∙ o in
+    record {
+      first = sym (ap (λ (x : Octets). x.first) q);
+      second = sym (ap (λ (x : Octets). x.second) q);
+      third = sym (ap (λ (x : Octets). x.third) q);
+      fourth = sym (ap (λ (x : Octets). x.fourth) q);
+      length = l;
+    }
 
 -- a prefix's text, put to the end of a text part after part
 pub prefix_text_by_parts : (p : PrefixParts) (a b c d n : ℕ) → AreNumbers p a b c d n → (old one two three four five : List ℕ) → one ≡ old ++ (decimal a ++ (46 ∷ [])) → two ≡ one ++ (decimal b ++ (46 ∷ [])) → three ≡ two ++ (decimal c ++ (46 ∷ [])) → four ≡ three ++ (decimal d ++ (47 ∷ [])) → five ≡ four ++ decimal n → five ≡ old ++ prefix_text p
@@ -130,8 +129,8 @@ prefix_text_avoids t p h plain =
     let s = small p plain.family plain.masked in
     list_any-append t (dotted (octets_of p.address)) (47 ∷ decimal p.length)
     ∙ or_from (list_any t (dotted (octets_of p.address))) (t 47 || list_any t (decimal p.length))
-      (dotted_avoids t (octets_of p.address) h (octets_within p.address s.0))
-      (or_from (t 47) (list_any t (decimal p.length)) h.slash (decimal_avoids t h.digit p.length (omega (arith, s.1))))
+    (dotted_avoids t (octets_of p.address) h (octets_within p.address s.0))
+    (or_from (t 47) (list_any t (decimal p.length)) h.slash (decimal_avoids t h.digit p.length (omega (arith, s.1))))
 
 append_starts : (front rest : List ℕ) → StartsWithDigit front → StartsWithDigit (front ++ rest)
 append_starts front rest h = record { first = h.first; behind = h.behind ++ rest; is = ap (λ (x : List ℕ). x ++ rest) h.is; digit = h.digit }

@@ -1,19 +1,19 @@
 -- The text of an address and of a prefix is found as that value, and what is found is spelled so.
-use Rattle.std.proofs.Common.{◌≡◌, refl, sym, ap, subst, ◌∙◌, ℕ, ◌+◌, ◌-◌, ◌*◌, ◌/◌, ◌%◌, ◌^◌, ◌<◌, ◌≤◌, Bool, true, false, ◌||◌, List, [], ◌∷◌, ◌++◌, Option, Some, None, arith, lit<}
+use Rattle.std.proofs.Common.{◌≡◌, refl, sym, ap, subst, ◌∙◌, ℕ, ◌≤◌, Bool, true, false, List, [], ◌∷◌, ◌++◌, Option, Some, None, arith, lit<}
 use Rattle.std.specs.Prelude.{decimal, ◌==◌}
 use Rattle.std.specs.List.{list_any}
 use Rattle.std.proofs.lemmas.Bool.{eq-eqb, eqb-true, or_from, or_parts}
 use Rattle.std.proofs.lemmas.List.Folds.{list_any-append}
 use Rattle.route_types.specs.Address.{PrefixParts, prefix_of}
-use Rattle.route_types.specs.Words.{Octets, dotted, address_of, IsNumber, IsAddress, IsPrefix, FindsExactly, is_digit, number_in, parts_at, address_in, prefix_in, ◌>>=◌}
+use Rattle.route_types.specs.Words.{Octets, dotted, address_of, IsAddress, IsPrefix, FindsExactly, number_in, parts_at, address_in, prefix_in, ◌>>=◌}
 use Rattle.route_types.specs.declared.address.Address.{Address}
-use Rattle.route_types.specs.declared.address.Family.TheVariants.{V4}
 use Rattle.route_types.proofs.Numbers.{bind_found, some_is, number_in_spelled, number_in_found, decimal_no_such_byte}
 
 same_byte : (b : ℕ) → (b == b) ≡ true
 same_byte b = eq-eqb b b refl
 
-ap2 : {A B C : Type 0} (f : A → B → C) {a x : A} {b y : B} → a ≡ x → b ≡ y → f a b ≡ f x y
+-- two arguments replaced by equal ones
+pub ap2 : {A B C : Type 0} (f : A → B → C) {a x : A} {b y : B} → a ≡ x → b ≡ y → f a b ≡ f x y
 ap2 f {a} {x} {b} {y} p q = ap (λ z. f z b) p ∙ ap (λ z. f x z) q
 
 -- what stands before the byte, where the byte does not stand in it

@@ -1,9 +1,10 @@
 -- The walk over digits gives the number that the word spells.
-use Rattle.std.proofs.Common.{◌≡◌, refl, sym, ap, ◌∙◌, ℕ, ◌+◌, ◌-◌, ◌*◌, ◌<◌, ◌≤◌, Bool, true, false, cond, not, nat_le, List, [], ◌∷◌, Option, Some, None, arith, inl, inr, ◌⊎◌}
+use Rattle.std.proofs.Common.{◌≡◌, refl, sym, ap, ◌∙◌, ℕ, ◌+◌, ◌-◌, ◌*◌, ◌<◌, ◌≤◌, Bool, true, false, cond, not, nat_le, List, [], ◌∷◌, Option, None, arith, inl, inr, ◌⊎◌}
 use Rattle.std.specs.Prelude.{◌==◌}
 use Rattle.std.proofs.lemmas.Bool.{le-leb, lt-leb, cases_lt}
-use Rattle.route_types.specs.Words.{is_digit, digits_after, digits_value, number_in, when, ◌>>=◌}
-use Rattle.route_types.specs.Walk.{with_digit, number_after, starts_plainly}
+use Rattle.route_types.specs.Words.{is_digit, digits_after, number_in, when, ◌>>=◌}
+use Rattle.route_types.proofs.Numbers.{when_true}
+use Rattle.route_types.specs.Walk.{number_after, starts_plainly}
 
 -- the value, if it is at most the greatest one
 abbrev up_to : ℕ → Option ℕ → Option ℕ
@@ -12,10 +13,6 @@ up_to most o = o >>= λ m. when (nat_le m most) m
 when_false : {A : Type 0} (b : Bool) (x : A) → b ≡ false → when b x ≡ None
 when_false true x e = absurd cc
 when_false false x e = refl
-
-when_true : {A : Type 0} (b : Bool) (x : A) → b ≡ true → when b x ≡ Some x
-when_true true x e = refl
-when_true false x e = absurd cc
 
 too_large : (most n : ℕ) (cs : List ℕ) → most < n → up_to most (digits_after n cs) ≡ None
 too_large most n [] h = when_false (nat_le n most) n (lt-leb n most h)

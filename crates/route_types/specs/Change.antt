@@ -1,5 +1,5 @@
 -- What a change makes of a route, and what a list of changes does.
-use Rattle.std.specs.Prelude.{ℕ, List, [], ◌∷◌}
+use Rattle.std.specs.Prelude.{List, [], ◌∷◌}
 use Rattle.route_types.specs.Route.{RouteParts}
 use Rattle.route_types.specs.Community.{set_after}
 use Rattle.route_types.specs.declared.change.Change.{Change}

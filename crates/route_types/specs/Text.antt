@@ -1,5 +1,5 @@
 -- What the texts of all three languages share: blanks, and lines with the place where each starts.
-use Rattle.std.specs.Prelude.{ℕ, ◌+◌, Bool, true, false, ◌&&◌, ◌||◌, not, ◌==◌, List, [], ◌∷◌, nat_eq}
+use Rattle.std.specs.Prelude.{ℕ, ◌+◌, Bool, true, false, ◌&&◌, ◌||◌, ◌==◌, List, [], ◌∷◌}
 
 -- a space or a tab
 abbrev pub is_blank : ℕ → Bool

@@ -1,6 +1,6 @@
 -- The forms of words: what a number, an address and a prefix are as texts, and the functions that
--- find them. A law of `forms` joins the two, both ways.
-use Rattle.std.specs.Prelude.{◌≡◌, ℕ, zero, ◌+◌, ◌-◌, ◌*◌, ◌≤◌, Bool, true, false, cond, ◌&&◌, ◌||◌, nat_le, ◌==◌, List, [], ◌∷◌, ◌++◌, Option, Some, None, decimal}
+-- find them. The clauses `found` and `exact` of the readers join the two, both ways.
+use Rattle.std.specs.Prelude.{◌≡◌, ℕ, ◌+◌, ◌-◌, ◌*◌, ◌≤◌, Bool, true, false, ◌&&◌, nat_le, ◌==◌, List, [], ◌∷◌, ◌++◌, Option, Some, None, decimal}
 use Rattle.route_types.specs.Address.{PrefixParts, prefix_of}
 use Rattle.route_types.specs.declared.address.Address.{Address}
 use Rattle.route_types.specs.declared.address.Family.TheVariants.{V4}

@@ -1,6 +1,7 @@
 //! The values that every layer speaks of: addresses, prefixes, communities, routes, changes and
 //! outcomes, and for now also statements, the forms of words and prefix ranges.
-//! It stands on std alone. Its definitions are in `specs/`, a file a notion.
+//! It stands on std and the kit's itoa. Its definitions are in `specs/`, a file a notion, and the
+//! laws that crates above cite in `proofs/`: `Numbers`, `Spelled`, `Printed`, `Lines` and `Sets`.
 #![tactic(auto)]
 
 mod address;

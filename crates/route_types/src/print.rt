@@ -1,5 +1,5 @@
 ghost use Rattle.std.specs.Prelude.{◌≡◌, ◌<◌, ◌^◌, ◌++◌, ◌∷◌, [], IfOk, decimal};
-ghost use Rattle.route_types.specs.Print.{prefix_text};
+ghost use Rattle.route_types.specs.Print.{octets_of, prefix_text};
 ghost use Rattle.route_types.specs.declared.address.Family.TheVariants.{V4};
 
 use crate::address::Prefix;
@@ -24,6 +24,16 @@ fn push_number_and(out: &mut Vec<u8>, number: u64, mark: u8) -> Result<(), Memor
     Ok(())
 }
 
+// The four bytes of 32 bits, the most significant one first.
+fn octets(bits: u32) -> (u8, u8, u8, u8)
+    ensures { octets_of (record { family = V4; bits = bits }) ≡ record { first = result.0; second = result.1; third = result.2; fourth = result.3 } }
+{
+    let first = (bits / 256 / 256 / 256) as u8;
+    let second = (bits / 256 / 256 % 256) as u8;
+    let third = (bits / 256 % 256) as u8;
+    (first, second, third, (bits % 256) as u8)
+}
+
 /// Puts the text of an IPv4 prefix at the end of `out`: its address as four numbers joined by
 /// dots, a slash and its length. `read_prefix` reads that text as the prefix. Its one error is
 /// want of memory.
@@ -31,11 +41,11 @@ pub fn push_prefix(out: &mut Vec<u8>, prefix: &Prefix) -> Result<(), Memory>
     requires { prefix.now.address.family ≡ V4 }
     ensures { IfOk result (λ _. out.new.items ≡ out.old.items ++ prefix_text prefix.now) }
 {
-    let bits = prefix.v4_bits();
-    push_number_and(out, u64::from(bits / 256 / 256 / 256), b'.')?;
-    push_number_and(out, u64::from(bits / 256 / 256 % 256), b'.')?;
-    push_number_and(out, u64::from(bits / 256 % 256), b'.')?;
-    push_number_and(out, u64::from(bits % 256), b'/')?;
+    let (first, second, third, fourth) = octets(prefix.v4_bits());
+    push_number_and(out, u64::from(first), b'.')?;
+    push_number_and(out, u64::from(second), b'.')?;
+    push_number_and(out, u64::from(third), b'.')?;
+    push_number_and(out, u64::from(fourth), b'/')?;
     push_number(out, u64::from(prefix.length()))?;
     Ok(())
 }

@@ -107,12 +107,17 @@ fn printed(rt: HostRuntime) -> Result<(), Memory> {
     assert_eq!(rt; text.as_slice(), b"10.1.2.128/25".as_slice());
     push_number(&mut text, 0)?;
     push_number(&mut text, u64::MAX)?;
-    assert_eq!(rt; text.as_slice(), b"10.1.2.128/25018446744073709551615".as_slice());
+    assert_eq!(rt;
+        text.as_slice(),
+        b"10.1.2.128/25018446744073709551615".as_slice()
+    );
     Ok(())
 }
 
 const A1: Community = Community(65001 * 65536 + 1);
+
 const A5: Community = Community(65001 * 65536 + 5);
+
 const B1: Community = Community(65002 * 65536 + 1);
 
 fn changes(alloc: Global, removed: &[Rect], added: &[Community]) -> Result<Change, Memory> {
@@ -136,24 +141,51 @@ fn base(alloc: Global) -> Result<Route, Memory> {
     apply_change(alloc, &route, &added)
 }
 
+fn after(alloc: Global, change: Change) -> Result<Route, Memory> {
+    let route = base(alloc)?;
+    apply_change(alloc, &route, &change)
+}
+
+fn next_hop_after(alloc: Global, hop: NextHop) -> Result<NextHop, Memory> {
+    let route = after(alloc, Change::NextHop(hop))?;
+    Ok(*route.next_hop())
+}
+
+fn first_of_path_after(alloc: Global, number: u32) -> Result<Option<u32>, Memory> {
+    let route = after(alloc, Change::Prepend(number))?;
+    Ok(route.path().first().copied())
+}
+
+fn origin_after(alloc: Global, origin: Origin) -> Result<Origin, Memory> {
+    let route = after(alloc, Change::Origin(origin))?;
+    Ok(*route.origin())
+}
+
+// The local preference, the MED and the weight.
+fn numbers_after(alloc: Global, change: Change) -> Result<(u32, u32, u16), Memory> {
+    let route = after(alloc, change)?;
+    Ok((route.local_preference(), route.med(), route.weight()))
+}
+
 #[test]
 fn attributes(rt: HostRuntime) -> Result<(), Memory> {
     let alloc = rt.alloc();
-    let route = base(alloc)?;
     let hop = NextHop::At(v4(0x0a00_0001));
-    let next_hop = apply_change(alloc, &route, &Change::NextHop(hop))?;
-    assert_eq!(rt; *next_hop.next_hop(), hop);
-    let path = apply_change(alloc, &route, &Change::Prepend(7))?;
-    assert_eq!(rt; path.path(), [7, 65001, 65001].as_slice());
-    let origin = apply_change(alloc, &route, &Change::Origin(Origin::Egp))?;
-    assert_eq!(rt; *origin.origin(), Origin::Egp);
-    let preferred = apply_change(alloc, &route, &Change::LocalPreference(200))?;
-    assert_eq!(rt; preferred.local_preference(), 200);
-    let med = apply_change(alloc, &route, &Change::Med(50))?;
-    assert_eq!(rt; med.med(), 50);
-    let weight = apply_change(alloc, &route, &Change::Weight(9))?;
-    assert_eq!(rt; weight.weight(), 9);
-    assert_eq!(rt; weight.prefix().length(), 8);
+    assert_eq!(rt; next_hop_after(alloc, hop)?, hop);
+    assert_eq!(rt; first_of_path_after(alloc, 7)?, Some(7));
+    assert_eq!(rt; origin_after(alloc, Origin::Egp)?, Origin::Egp);
+    Ok(())
+}
+
+#[test]
+fn numbers_of_a_route(rt: HostRuntime) -> Result<(), Memory> {
+    let alloc = rt.alloc();
+    let preferred = numbers_after(alloc, Change::LocalPreference(200))?;
+    assert_eq!(rt; preferred, (200, 0, 0));
+    let med = numbers_after(alloc, Change::Med(50))?;
+    assert_eq!(rt; med, (100, 50, 0));
+    let weight = numbers_after(alloc, Change::Weight(9))?;
+    assert_eq!(rt; weight, (100, 0, 9));
     Ok(())
 }
 
