@@ -5,3 +5,4 @@ pub mod Walk
 pub mod Parts
 pub mod Printed
 pub mod Bits
+pub mod Lines

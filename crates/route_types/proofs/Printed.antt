@@ -1,5 +1,5 @@
 -- A printed prefix reads as itself.
-use Rattle.std.proofs.Common.{◌≡◌, refl, sym, ap, subst, ◌∙◌, ℕ, ◌+◌, ◌-◌, ◌*◌, ◌/◌, ◌%◌, ◌^◌, ◌<◌, ◌≤◌, List, ◌∷◌, ◌++◌, Some, arith}
+use Rattle.std.proofs.Common.{◌≡◌, refl, sym, ap, subst, ◌∙◌, ℕ, ◌+◌, ◌-◌, ◌*◌, ◌/◌, ◌%◌, ◌^◌, ◌<◌, ◌≤◌, List, [], ◌∷◌, ◌++◌, Some, arith, append_assoc}
 use Rattle.std.specs.Prelude.{decimal}
 use Rattle.std.proofs.Math.Nat.{mul-mod_left}
 use Rattle.std.proofs.lemmas.Nat.{div-add-mod'}
@@ -75,3 +75,29 @@ prefix_in_plain word p e =
     let a = f.spells_address in
     let octets : AreOctets a.octets = record { first = a.first; second = a.second; third = a.third; fourth = a.fourth } in
     subst IsPlain (sym f.value) (prefix_of_plain f.address f.length (ap (λ (x : Address). x.family) a.value) (subst (λ (x : Address). x.bits < 2 ^ 32) (sym a.value) (address_fits a.octets octets)) f.within)
+
+regroup : (old a b c d e : List ℕ) → ((((old ++ (a ++ (46 ∷ []))) ++ (b ++ (46 ∷ []))) ++ (c ++ (46 ∷ []))) ++ (d ++ (47 ∷ []))) ++ e ≡ old ++ ((a ++ (46 ∷ b ++ (46 ∷ c ++ (46 ∷ d)))) ++ (47 ∷ e))
+regroup old a b c d e = simp append_assoc
+
+-- the five numbers of a prefix's text
+pub record AreNumbers (p : PrefixParts) (a b c d n : ℕ) : Type 0 where
+  pub first : a ≡ (octets_of p.address).first
+  pub second : b ≡ (octets_of p.address).second
+  pub third : c ≡ (octets_of p.address).third
+  pub fourth : d ≡ (octets_of p.address).fourth
+  pub length : n ≡ p.length
+
+pub numbers_of : (p : PrefixParts) (bits a b c d n : ℕ) → bits ≡ p.address.bits → a ≡ bits / 256 / 256 / 256 → b ≡ bits / 256 / 256 % 256 → c ≡ bits / 256 % 256 → d ≡ bits % 256 → n ≡ p.length → AreNumbers p a b c d n
+numbers_of p bits a b c d n e e1 e2 e3 e4 e5 = record {
+  first = e1 ∙ ap (λ (x : ℕ). x / 256 / 256 / 256) e;
+  second = e2 ∙ ap (λ (x : ℕ). x / 256 / 256 % 256) e;
+  third = e3 ∙ ap (λ (x : ℕ). x / 256 % 256) e;
+  fourth = e4 ∙ ap (λ (x : ℕ). x % 256) e;
+  length = e5;
+}
+
+-- a prefix's text, put to the end of a text part after part
+pub prefix_text_by_parts : (p : PrefixParts) (a b c d n : ℕ) → AreNumbers p a b c d n → (old one two three four five : List ℕ) → one ≡ old ++ (decimal a ++ (46 ∷ [])) → two ≡ one ++ (decimal b ++ (46 ∷ [])) → three ≡ two ++ (decimal c ++ (46 ∷ [])) → four ≡ three ++ (decimal d ++ (47 ∷ [])) → five ≡ four ++ decimal n → five ≡ old ++ prefix_text p
+unfolding prefix_text
+prefix_text_by_parts p a b c d n h old one two three four five e1 e2 e3 e4 e5 =
+    rw (e5, e4, e3, e2, e1, h.first, h.second, h.third, h.fourth, h.length) (regroup old (decimal (octets_of p.address).first) (decimal (octets_of p.address).second) (decimal (octets_of p.address).third) (decimal (octets_of p.address).fourth) (decimal p.length))

@@ -37,3 +37,9 @@ lines_from_byte p c behind rest = elim (c == 10) [
 unfoldable pub lines_at : ℕ → List ℕ → List Line
 lines_at p [] = record { start = p; bytes = [] } ∷ []
 lines_at p (c ∷ cs) = lines_from_byte p c cs (lines_at (p + 1) cs)
+
+-- a line without one CR at its end
+abbrev pub without_return : List ℕ → List ℕ
+without_return [] = []
+without_return (c ∷ []) = elim (c == 13) [ true ↦ [] | false ↦ c ∷ [] ]
+without_return (c ∷ d ∷ cs) = c ∷ without_return (d ∷ cs)

@@ -1,4 +1,5 @@
 ghost use Rattle.std.specs.Prelude.{◌≡◌, ◌-◌, ◌*◌, ◌/◌, ◌^◌, ◌<◌, ◌≤◌};
+ghost use Rattle.route_types.specs.declared.address.Family.TheVariants.{V4};
 ghost use Rattle.route_types.specs.Address.{width, prefix_of, IsMasked};
 
 use std::marker::Model;
@@ -105,5 +106,13 @@ impl Prefix {
         ensures masked { IsMasked self.now.address self.now.length }
     {
         self.address.family.width() - self.length
+    }
+
+    // The 32 bits of an IPv4 prefix's address.
+    pub(crate) fn v4_bits(&self) -> u32
+        requires { self.now.address.family ≡ V4 }
+        ensures { result ≡ self.now.address.bits }
+    {
+        self.address.bits as u32
     }
 }
