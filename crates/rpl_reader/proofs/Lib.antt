@@ -1,1 +1,3 @@
 mod Examples
+pub mod SetNames
+pub mod WrittenMeaning
