@@ -77,9 +77,11 @@ word_then p c [] rest h e =
 word_then p c (d ∷ ds) rest h e =
     let q = or_parts (is_breaking c) (list_any is_breaking (d ∷ ds)) h in
     let r = or_parts (is_breaking d) (list_any is_breaking ds) q.1 in
-    let m = word_then (p + 1) d ds rest q.1 e in
-    (record { start = p; end = m.0.end }, m.1,
-    more_byte p c ((d ∷ ds) ++ rest) (plain_byte c q.0) (going_on d (ds ++ rest) (plain_byte d r.0)) ∙ ap (λ (ws : List Word). onto_word p c ws) m.2)
+    let m = word_then (p + 1) d ds rest q.1 e in (
+      record { start = p; end = m.0.end },
+      m.1,
+      more_byte p c ((d ∷ ds) ++ rest) (plain_byte c q.0) (going_on d (ds ++ rest) (plain_byte d r.0)) ∙ ap (λ (ws : List Word). onto_word p c ws) m.2,
+    )
 
 plain_bytes : (w : List ℕ) → list_any is_breaking w ≡ false → IsPlainLine w
 plain_bytes [] h = refl
@@ -146,11 +148,13 @@ marked_words t ts ss h = rw h (ap (λ (ws : List LineWord). record { word = plai
 pub text_line : (t : List ℕ) (ts : List (List ℕ)) (line rest : List ℕ) (p : ℕ) → LineIs (t ∷ ts) line → IsNoComment t → (ss : List Span) × (q : ℕ) × (text_words p (line ++ (10 ∷ rest)) ≡ line_of true (t ∷ ts) ss ++ text_words q rest)
 text_line t ts line rest p h none =
     let w = h.words p in
-    let q = p + length line + 1 in
-    (w.0, q,
-    ap (λ (ls : List Line). flat_map line_words ls) (lines_at_plain p line rest h.plain)
-    ∙ ap (λ (ws : List Word). marked ws ++ text_words q rest) w.1
-    ∙ ap (λ (ws : List LineWord). ws ++ text_words q rest) (marked_words t ts w.0 none))
+    let q = p + length line + 1 in (
+      w.0,
+      q,
+      ap (λ (ls : List Line). flat_map line_words ls) (lines_at_plain p line rest h.plain)
+          ∙ ap (λ (ws : List Word). marked ws ++ text_words q rest) w.1
+          ∙ ap (λ (ws : List LineWord). ws ++ text_words q rest) (marked_words t ts w.0 none),
+    )
 
 -- a text that begins with a line `!`
 pub text_remark : (rest : List ℕ) (p : ℕ) → (q : ℕ) × (text_words p (33 ∷ 10 ∷ rest) ≡ text_words q rest)

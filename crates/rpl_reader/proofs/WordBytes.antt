@@ -2,7 +2,7 @@
 use Rattle.std.proofs.Common.{◌≡◌, refl, sym, ap, subst, ◌∙◌, ℕ, ◌+◌, ◌^◌, ◌<◌, ◌≤◌, Bool, true, false, ◌&&◌, ◌||◌, not, nat_le, List, [], ◌∷◌, ◌++◌, length, arith}
 use Rattle.std.specs.Prelude.{codes, bytes_eq, decimal, ◌==◌}
 use Rattle.std.specs.List.{list_any, list_all}
-use Rattle.std.proofs.lemmas.Bool.{ne_eqb, and_parts, and_from, or_from, or_parts, or_left, or_right}
+use Rattle.std.proofs.lemmas.Bool.{ne_eqb, and_parts, and_from, or_from, or_parts, or_left, or_right, not_from_false}
 use Rattle.std.proofs.lemmas.List.{length-append}
 use Rattle.std.proofs.lemmas.List.Folds.{list_any-append, list_all-append}
 use Rattle.std.proofs.lemmas.Fmt.{decimal_nonempty}
@@ -15,6 +15,8 @@ use Rattle.route_types.specs.declared.address.Family.{Family}
 use Rattle.route_types.specs.declared.address.Family.TheVariants.{V4}
 use Rattle.route_types.proofs.Numbers.{all_digits, decimal_plain}
 use Rattle.route_types.proofs.Printed.{octets_within}
+use Rattle.rpl_reader.specs.Cut.{starts}
+use Rattle.rpl_reader.specs.Forms.{is_rpl_name, is_name_within}
 use Rattle.rpl_reader.specs.Layout.{set_name}
 use Rattle.rpl_reader.proofs.SetNames.{other_name}
 use Rattle.rpl_reader.specs.Written.{is_letter, is_name_byte, is_new_name}
@@ -124,7 +126,7 @@ digit_in_name : (c : ℕ) → is_digit c ≡ true → is_name_byte c ≡ true
 digit_in_name c h =
     or_left (is_letter c || is_digit c || (c == 45)) (c == 95) (or_left (is_letter c || is_digit c) (c == 45) (or_right (is_letter c) (is_digit c) h))
 
-new_name_bytes : (name : List ℕ) → is_new_name name ≡ true → list_all is_name_byte name ≡ true
+pub new_name_bytes : (name : List ℕ) → is_new_name name ≡ true → list_all is_name_byte name ≡ true
 new_name_bytes [] h = refl
 new_name_bytes (c ∷ cs) h =
     let q = and_parts (is_letter c && list_all is_name_byte cs) (nat_le (length cs) 62) h in
@@ -136,7 +138,7 @@ new_name_some [] h = absurd cc
 new_name_some (c ∷ cs) h = omega arith
 
 -- a word of name bytes is a name, and may stand in a header
-pub name_is_name : (name : List ℕ) → list_all is_name_byte name ≡ true → (is_name name && not (starts_with_byte 36 name)) ≡ true
+pub name_is_name : (name : List ℕ) → list_all is_name_byte name ≡ true → is_rpl_name name ≡ true
 name_is_name name all =
     let a : list_any is_mark name ≡ false = no_byte_of is_name_byte (codes "\"'[]{}(),;") name refl all in
     let b : starts_with_byte 36 name ≡ false = starts_without is_name_byte 36 name refl all in
@@ -185,3 +187,10 @@ prefix_has p short = join_has (dotted (octets_of p.address)) (47 ∷ decimal p.l
 
 pub set_name_has : (name : List ℕ) (place : ℕ) → place < 2 ^ 63 → HasDigit (set_name name place)
 set_name_has name place small = join_has name (codes "-p" ++ decimal (place + 1)) (decimal_has (place + 1) (omega arith))
+
+-- the name of a set may stand in a header, and in a condition
+pub set_name_within : (name : List ℕ) (place : ℕ) → is_new_name name ≡ true → place < 2 ^ 63 → is_name_within (set_name name place) ≡ true
+set_name_within name place h small =
+    and_from (is_rpl_name (set_name name place)) (not (list_any (λ key. bytes_eq key (set_name name place)) (codes "then" ∷ codes "end-policy" ∷ starts)))
+    (name_is_name (set_name name place) (set_name_bytes name place h small))
+    (not_from_false (list_any (λ key. bytes_eq key (set_name name place)) (codes "then" ∷ codes "end-policy" ∷ starts)) (no_keywords (codes "then" ∷ codes "end-policy" ∷ starts) (set_name name place) refl (set_name_has name place small)))
