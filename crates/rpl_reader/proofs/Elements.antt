@@ -1,14 +1,14 @@
 -- The elements of a set: their words, what these say, and how they are cut.
-use Rattle.std.proofs.Common.{◌≡◌, refl, sym, ap, ap₂, subst, ◌∙◌, ℕ, ◌+◌, ◌^◌, ◌<◌, ◌≤◌, Bool, true, false, ◌&&◌, ◌||◌, not, nat_le, List, [], ◌∷◌, ◌++◌, append_assoc, arith, Option, Some, None}
+use Rattle.std.proofs.Common.{◌≡◌, refl, sym, ap, ap₂, subst, ◌∙◌, ℕ, ◌≤◌, Bool, true, false, List, [], ◌∷◌, ◌++◌, append_assoc, arith, Option, Some, None}
 use Rattle.std.specs.Prelude.{codes, bytes_eq, decimal, option_map, ◌==◌}
-use Rattle.std.specs.List.{list_any, AllByRecursion}
+use Rattle.std.specs.List.{AllByRecursion}
 use Rattle.std.proofs.lemmas.Bool.{eqb-true, le-leb}
 use Rattle.route_types.specs.Address.{PrefixParts}
 use Rattle.route_types.specs.Bounds.{bounds_in}
 use Rattle.route_types.specs.Names.{first_some, or_else}
 use Rattle.route_types.specs.Print.{prefix_text}
 use Rattle.route_types.specs.Range.{RangeParts}
-use Rattle.route_types.specs.Words.{◌>>=◌, when, number_in, prefix_in}
+use Rattle.route_types.specs.Words.{◌>>=◌, prefix_in}
 use Rattle.route_types.specs.declared.statement.Ender.TheVariants.{Comma, Plain}
 use Rattle.route_types.specs.declared.statement.Span.{Span}
 use Rattle.route_types.specs.declared.statement.Word.{Word}
@@ -18,7 +18,7 @@ use Rattle.route_types.proofs.Printed.{prefix_in_printed}
 use Rattle.rpl_reader.specs.declared.item.BlockKind.TheVariants.{PrefixSet as PrefixSetKind}
 use Rattle.rpl_reader.specs.declared.item.RplForm.{RplForm}
 use Rattle.rpl_reader.specs.declared.item.RplForm.TheVariants.{Element, Other}
-use Rattle.rpl_reader.specs.Cut.{LineWord, is_word, Mode, InSet, onto, alone, end_behind, element_ends, cut_from}
+use Rattle.rpl_reader.specs.Cut.{LineWord, is_word, InSet, onto, alone, end_behind, element_ends, cut_from}
 use Rattle.rpl_reader.specs.Forms.{range_with, equal_in, element_in}
 use Rattle.rpl_reader.specs.Layout.{lengths_text, element_text}
 use Rattle.rpl_reader.specs.Tree.{ends_block, known_statement, statement_form}

@@ -8,3 +8,4 @@ pub mod Says
 pub mod SetNames
 pub mod WordBytes
 pub mod WrittenMeaning
+pub mod WrittenProfile

@@ -1,14 +1,14 @@
 -- The words of a line that is written, and the words of a text that begins with a line.
-use Rattle.std.proofs.Common.{◌≡◌, refl, sym, ap, subst, ◌∙◌, ℕ, ◌+◌, ◌<◌, Bool, true, false, ◌&&◌, ◌||◌, not, List, [], ◌∷◌, ◌++◌, length, map, flat_map, append_assoc, append-nil, arith}
-use Rattle.std.specs.Prelude.{codes, ◌==◌}
-use Rattle.std.specs.List.{list_any, list_all}
+use Rattle.std.proofs.Common.{◌≡◌, refl, ap, subst, ◌∙◌, ℕ, ◌+◌, Bool, true, false, ◌&&◌, ◌||◌, not, List, [], ◌∷◌, ◌++◌, length, map, flat_map, append-nil}
+use Rattle.std.specs.Prelude.{◌==◌}
+use Rattle.std.specs.List.{list_any}
 use Rattle.std.proofs.lemmas.Bool.{or_from, or_parts, and_left}
 use Rattle.std.proofs.lemmas.List.Folds.{list_any-append}
 use Rattle.route_types.specs.Text.{is_blank, starts_with_byte, Line, lines_at}
 use Rattle.route_types.specs.declared.statement.Span.{Span}
 use Rattle.route_types.specs.declared.statement.Word.{Word}
 use Rattle.route_types.proofs.Lines.{IsPlainLine, lines_at_plain}
-use Rattle.rpl_reader.specs.Words.{is_single, is_opening, word_of_byte, onto_word, goes_on, words_at}
+use Rattle.rpl_reader.specs.Words.{is_single, word_of_byte, onto_word, goes_on, words_at}
 use Rattle.rpl_reader.specs.Cut.{LineWord, marked, line_words, line_ends}
 use Rattle.rpl_reader.proofs.WordBytes.{is_breaking, IsPlainWord}
 

@@ -1,14 +1,13 @@
 -- The text of a policy reads as what the policy says.
-use Rattle.std.proofs.Common.{◌≡◌, refl, sym, ap, subst, subst₂, ◌∙◌, ℕ, ◌+◌, ◌^◌, ◌<◌, Bool, true, false, List, [], ◌∷◌, ◌++◌, length, append_assoc, arith, Option, Some, None}
+use Rattle.std.proofs.Common.{◌≡◌, refl, sym, ap, subst, ◌∙◌, ℕ, Bool, true, false, List, [], ◌∷◌, ◌++◌, length, arith, Option, Some, None}
 use Rattle.std.specs.Prelude.{codes, option_map}
 use Rattle.route_types.specs.Range.{RangeParts}
 use Rattle.route_types.specs.Words.{when}
-use Rattle.rpl_reader.specs.declared.item.BlockKind.TheVariants.{Policy}
 use Rattle.rpl_reader.specs.declared.item.RplForm.{RplForm}
 use Rattle.rpl_reader.specs.declared.item.RplForm.TheVariants.{RoutePolicy, End}
 use Rattle.rpl_reader.specs.declared.item.RplItem.{RplItem}
 use Rattle.rpl_reader.specs.Cut.{LineWord, Margin, cut_from, rpl_cut}
-use Rattle.rpl_reader.specs.Layout.{Step, steps_text, policy_text, sets_forms, steps_forms, policy_forms}
+use Rattle.rpl_reader.specs.Layout.{Step, steps_text, policy_text, steps_forms, policy_forms}
 use Rattle.rpl_reader.specs.Tree.{items_of, is_whole, rpl_tree, forms}
 use Rattle.rpl_reader.specs.Written.{IsWritable}
 use Rattle.rpl_reader.proofs.WordBytes.{name_is_name, name_word, new_name_bytes}

@@ -1,12 +1,11 @@
 -- The lines of the steps say what the steps are.
-use Rattle.std.proofs.Common.{◌≡◌, refl, sym, ap, ap₂, subst, subst₂, ◌∙◌, ℕ, ◌+◌, ◌^◌, ◌<◌, ◌≤◌, Bool, true, false, ◌||◌, List, [], ◌∷◌, ◌++◌, length, map, append_assoc, append-nil, arith, Option, Some, None}
+use Rattle.std.proofs.Common.{◌≡◌, refl, sym, ap, subst, subst₂, ℕ, ◌^◌, ◌<◌, Bool, true, false, ◌||◌, List, [], ◌∷◌, ◌++◌, map, append_assoc, arith, Option, Some, None}
 use Rattle.std.specs.Prelude.{codes, bytes_eq, decimal, IfSome}
 use Rattle.std.specs.List.{list_any, AllByRecursion}
 use Rattle.route_types.specs.declared.statement.Span.{Span}
-use Rattle.rpl_reader.specs.declared.item.BlockKind.{BlockKind}
 use Rattle.rpl_reader.specs.declared.item.BlockKind.TheVariants.{Policy}
 use Rattle.rpl_reader.specs.declared.item.RplForm.{RplForm}
-use Rattle.rpl_reader.specs.declared.item.RplForm.TheVariants.{If, EndIf, SetLocalPreference, Drop, End}
+use Rattle.rpl_reader.specs.declared.item.RplForm.TheVariants.{If, EndIf, SetLocalPreference, End}
 use Rattle.rpl_reader.specs.declared.item.RplTest.TheVariants.{Destination}
 use Rattle.rpl_reader.specs.Cut.{LineWord, starts, Margin, InPolicy, statement_ends, cut_from}
 use Rattle.rpl_reader.specs.Layout.{Step, set_name, preferences_text, verdict_text, actions_text, steps_text, verdict_form, actions_forms, steps_forms}

@@ -1,24 +1,22 @@
 -- What statements say, and how the words of a line are cut: line by line, before any words behind it.
-use Rattle.std.proofs.Common.{◌≡◌, refl, sym, ap, ap₂, subst, ◌∙◌, ℕ, ◌+◌, ◌-◌, ◌^◌, ◌<◌, Bool, true, false, ◌&&◌, ◌||◌, not, List, [], ◌∷◌, ◌++◌, map, arith, Option, Some, None}
+use Rattle.std.proofs.Common.{◌≡◌, refl, sym, ap, ap₂, subst, ◌∙◌, ℕ, ◌-◌, ◌^◌, ◌<◌, Bool, true, false, ◌||◌, List, [], ◌∷◌, ◌++◌, arith, Option, Some, None}
 use Rattle.std.specs.Prelude.{codes, bytes_eq, decimal, option_map}
-use Rattle.std.specs.List.{list_any}
-use Rattle.std.proofs.lemmas.Bool.{or_from, or_right, and_right}
-use Rattle.route_types.specs.Words.{◌>>=◌, when, number_in}
+use Rattle.std.proofs.lemmas.Bool.{or_from, or_right}
+use Rattle.route_types.specs.Words.{◌>>=◌, when}
 use Rattle.route_types.specs.Names.{first_some, or_else}
 use Rattle.route_types.specs.declared.statement.Span.{Span}
-use Rattle.route_types.specs.declared.statement.Word.{Word}
 use Rattle.route_types.specs.declared.statement.Statement.{Statement}
 use Rattle.route_types.specs.declared.statement.Ender.TheVariants.{Line as EndsLine, Plain}
 use Rattle.route_types.proofs.Numbers.{number_in_spelled}
 use Rattle.rpl_reader.specs.declared.item.BlockKind.{BlockKind}
 use Rattle.rpl_reader.specs.declared.item.BlockKind.TheVariants.{PrefixSet as PrefixSetKind, Policy}
 use Rattle.rpl_reader.specs.declared.item.RplForm.{RplForm}
-use Rattle.rpl_reader.specs.declared.item.RplForm.TheVariants.{PrefixSet, Element, RoutePolicy, If, EndIf, SetLocalPreference, Done, Drop, End, Other}
+use Rattle.rpl_reader.specs.declared.item.RplForm.TheVariants.{PrefixSet, RoutePolicy, If, EndIf, SetLocalPreference, Done, Drop, End, Other}
 use Rattle.rpl_reader.specs.declared.item.RplTest.TheVariants.{Destination}
-use Rattle.rpl_reader.specs.Cut.{LineWord, behind_line, is_word, is_one_of, starts, Mode, Margin, OnLine, InSet, InPolicy, onto, alone, line_ends, element_ends, statement_ends, in_condition, ends_statement, cut_from}
-use Rattle.rpl_reader.specs.Forms.{plain_texts, is_rpl_name, is_name_within, element_in, prefix_set_in, policy_header_in, if_in, set_in, single_word_in}
+use Rattle.rpl_reader.specs.Cut.{LineWord, behind_line, is_word, starts, Margin, OnLine, InSet, InPolicy, onto, alone, line_ends, statement_ends, in_condition, ends_statement, cut_from}
+use Rattle.rpl_reader.specs.Forms.{plain_texts, is_rpl_name, is_name_within, prefix_set_in, policy_header_in, if_in, set_in, single_word_in}
 use Rattle.rpl_reader.specs.Layout.{verdict_text, verdict_form}
-use Rattle.rpl_reader.specs.Tree.{ends_block, ifs_within, known_statement, header_form, statement_form, items_of, is_whole, none_open, forms}
+use Rattle.rpl_reader.specs.Tree.{ends_block, ifs_within, header_form, statement_form, items_of, is_whole, forms}
 use Rattle.rpl_reader.proofs.WordBytes.{HasDigit, no_keyword, no_keywords, decimal_has}
 use Rattle.rpl_reader.proofs.LineWords.{span_of, later_spans, plain_at, spelled, line_of}
 

@@ -1,5 +1,5 @@
 -- The bytes of the words that are written: none breaks a word, none ends a line, none is a mark.
-use Rattle.std.proofs.Common.{◌≡◌, refl, sym, ap, subst, ◌∙◌, ℕ, ◌+◌, ◌^◌, ◌<◌, ◌≤◌, Bool, true, false, ◌&&◌, ◌||◌, not, nat_le, List, [], ◌∷◌, ◌++◌, length, arith}
+use Rattle.std.proofs.Common.{◌≡◌, refl, subst, ◌∙◌, ℕ, ◌+◌, ◌^◌, ◌<◌, ◌≤◌, Bool, true, false, ◌&&◌, ◌||◌, not, nat_le, List, [], ◌∷◌, ◌++◌, length, arith}
 use Rattle.std.specs.Prelude.{codes, bytes_eq, decimal, ◌==◌}
 use Rattle.std.specs.List.{list_any, list_all}
 use Rattle.std.proofs.lemmas.Bool.{ne_eqb, and_parts, and_from, or_from, or_parts, or_left, or_right, not_from_false}
@@ -7,10 +7,10 @@ use Rattle.std.proofs.lemmas.List.{length-append}
 use Rattle.std.proofs.lemmas.List.Folds.{list_any-append, list_all-append}
 use Rattle.std.proofs.lemmas.Fmt.{decimal_nonempty}
 use Rattle.route_types.specs.Address.{PrefixParts, IsMasked, width}
-use Rattle.route_types.specs.Names.{is_mark, is_name}
+use Rattle.route_types.specs.Names.{is_mark}
 use Rattle.route_types.specs.Print.{prefix_text, octets_of}
 use Rattle.route_types.specs.Text.{starts_with_byte}
-use Rattle.route_types.specs.Words.{is_digit, Octets, dotted}
+use Rattle.route_types.specs.Words.{is_digit, dotted}
 use Rattle.route_types.specs.declared.address.Family.{Family}
 use Rattle.route_types.specs.declared.address.Family.TheVariants.{V4}
 use Rattle.route_types.proofs.Numbers.{all_digits, decimal_plain}

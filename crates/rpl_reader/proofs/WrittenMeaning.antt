@@ -1,6 +1,6 @@
 -- What a written policy means: what its steps mean.
-use Rattle.std.proofs.Common.{◌≡◌, refl, sym, ap, subst, ◌∙◌, ℕ, zero, suc, ◌+◌, ◌^◌, ◌<◌, Bool, true, false, ◌||◌, List, [], ◌∷◌, ◌++◌, length, map, append_assoc, arith, Option, Some, None}
-use Rattle.std.specs.Prelude.{codes, bytes_eq, IfSome, slice_get, unwrap_or}
+use Rattle.std.proofs.Common.{◌≡◌, refl, ap, subst, ◌∙◌, ℕ, zero, suc, ◌+◌, ◌^◌, ◌<◌, Bool, true, false, List, [], ◌∷◌, ◌++◌, length, map, append_assoc, arith, Option, Some, None}
+use Rattle.std.specs.Prelude.{bytes_eq, IfSome, slice_get, unwrap_or}
 use Rattle.std.specs.List.{list_any, AllByRecursion}
 use Rattle.route_types.specs.Range.{RangeParts, in_range}
 use Rattle.route_types.specs.Route.{RouteParts}
@@ -9,11 +9,9 @@ use Rattle.route_types.specs.declared.change.Change.TheVariants.{LocalPreference
 use Rattle.route_types.specs.declared.route.Outcome.{Outcome}
 use Rattle.route_types.specs.declared.route.Outcome.TheVariants.{Reject, Accept}
 use Rattle.rpl_reader.specs.declared.item.RplForm.{RplForm}
-use Rattle.rpl_reader.specs.declared.item.RplForm.TheVariants.{PrefixSet, Element, RoutePolicy, If, EndIf, SetLocalPreference, Done, Drop, End}
-use Rattle.rpl_reader.specs.declared.item.RplTest.{RplTest}
-use Rattle.rpl_reader.specs.declared.item.RplTest.TheVariants.{Destination}
+use Rattle.rpl_reader.specs.declared.item.RplForm.TheVariants.{PrefixSet, Element, RoutePolicy, EndIf, SetLocalPreference, End}
 use Rattle.rpl_reader.specs.Layout.{Step, set_name, set_forms, sets_forms, verdict_form, actions_forms, steps_forms, policy_forms}
-use Rattle.rpl_reader.specs.Meaning.{elements_below, is_set, set_elements, is_policy, policy_body, test_holds, passed_over, run, rpl_meaning}
+use Rattle.rpl_reader.specs.Meaning.{elements_below, set_elements, policy_body, passed_over, run, rpl_meaning}
 use Rattle.rpl_reader.specs.Written.{IsWritable, IsPlainStep, guard_holds, step_outcome, steps_outcome}
 use Rattle.rpl_reader.proofs.SetNames.{same_name, set_names_apart}
 
