@@ -6,3 +6,4 @@ pub mod Parts
 pub mod Printed
 pub mod Bits
 pub mod Lines
+pub mod Sets
