@@ -7,3 +7,4 @@ pub mod Printed
 pub mod Bits
 pub mod Lines
 pub mod Sets
+pub mod Sorted

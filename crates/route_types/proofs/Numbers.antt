@@ -152,3 +152,34 @@ decimal_no_such_byte b n other small = no_such_byte b (decimal n) other (decimal
 pub number_in_within : (most : ℕ) (word : List ℕ) → IfSome (number_in most word) (λ n. n ≤ most)
 unfolding number_in
 number_in_within most word = within_found most (digits_value word)
+
+-- the bytes of a digit
+pub digit_range : (c : ℕ) → is_digit c ≡ true → (48 ≤ c) × (c ≤ 57)
+digit_range c h =
+    let p = and_parts (nat_le 48 c) (nat_le c 57) h in
+    (leb-true 48 c p.0, leb-true c 57 p.1)
+
+digits_avoid : (t : ℕ → Bool) (other : (c : ℕ) → 48 ≤ c → c ≤ 57 → t c ≡ false) (word : List ℕ) → all_digits word ≡ true → list_any t word ≡ false
+digits_avoid t other [] h = refl
+digits_avoid t other (c ∷ cs) h =
+    let p = and_parts (is_digit c) (all_digits cs) h in
+    let r = digit_range c p.0 in
+    or_from (t c) (list_any t cs) (other c r.0 r.1) (digits_avoid t other cs p.1)
+
+-- a test that holds for no digit holds for no byte of a number's text
+pub decimal_avoids : (t : ℕ → Bool) (other : (c : ℕ) → 48 ≤ c → c ≤ 57 → t c ≡ false) (n : ℕ) → n < 2 ^ 64 → list_any t (decimal n) ≡ false
+decimal_avoids t other n small = digits_avoid t other (decimal n) (decimal_plain n small).digits
+
+-- a number's text has a first byte, a digit
+pub record StartsWithDigit (word : List ℕ) : Type 0 where
+  pub first : ℕ
+  pub behind : List ℕ
+  pub is : word ≡ first ∷ behind
+  pub digit : is_digit first ≡ true
+
+starts_with_digit : (word : List ℕ) → IsPlainDigits word → StartsWithDigit word
+starts_with_digit [] h = absurd (omega (arith, h.some))
+starts_with_digit (c ∷ cs) h = record { first = c; behind = cs; is = refl; digit = (and_parts (is_digit c) (all_digits cs) h.digits).0 }
+
+pub decimal_starts : (n : ℕ) → n < 2 ^ 64 → StartsWithDigit (decimal n)
+decimal_starts n small = starts_with_digit (decimal n) (decimal_plain n small)

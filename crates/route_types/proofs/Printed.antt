@@ -1,6 +1,9 @@
 -- A printed prefix reads as itself.
-use Rattle.std.proofs.Common.{◌≡◌, refl, sym, ap, subst, ◌∙◌, ℕ, ◌+◌, ◌-◌, ◌*◌, ◌/◌, ◌%◌, ◌^◌, ◌<◌, ◌≤◌, List, [], ◌∷◌, ◌++◌, Some, arith, append_assoc}
+use Rattle.std.proofs.Common.{◌≡◌, refl, sym, ap, subst, ◌∙◌, ℕ, Bool, false, ◌||◌, ◌+◌, ◌-◌, ◌*◌, ◌/◌, ◌%◌, ◌^◌, ◌<◌, ◌≤◌, List, [], ◌∷◌, ◌++◌, Some, arith, append_assoc}
 use Rattle.std.specs.Prelude.{decimal}
+use Rattle.std.specs.List.{list_any}
+use Rattle.std.proofs.lemmas.Bool.{or_from}
+use Rattle.std.proofs.lemmas.List.Folds.{list_any-append}
 use Rattle.std.proofs.Math.Nat.{mul-mod_left}
 use Rattle.std.proofs.lemmas.Nat.{div-add-mod'}
 use Rattle.route_types.specs.Address.{PrefixParts, IsMasked, width, prefix_of, masked_address}
@@ -10,6 +13,7 @@ use Rattle.route_types.specs.declared.address.Address.{Address}
 use Rattle.route_types.specs.declared.address.Family.{Family}
 use Rattle.route_types.specs.declared.address.Family.TheVariants.{V4}
 use Rattle.route_types.proofs.Spelled.{AreOctets, prefix_in_spelled, prefix_in_found}
+use Rattle.route_types.proofs.Numbers.{StartsWithDigit, decimal_avoids, decimal_starts}
 
 ap2 : {A B C : Type 0} (f : A → B → C) {a x : A} {b y : B} → a ≡ x → b ≡ y → f a b ≡ f x y
 ap2 f {a} {x} {b} {y} p q = ap (λ z. f z b) p ∙ ap (λ z. f x z) q
@@ -101,3 +105,42 @@ pub prefix_text_by_parts : (p : PrefixParts) (a b c d n : ℕ) → AreNumbers p 
 unfolding prefix_text
 prefix_text_by_parts p a b c d n h old one two three four five e1 e2 e3 e4 e5 =
     rw (e5, e4, e3, e2, e1, h.first, h.second, h.third, h.fourth, h.length) (regroup old (decimal (octets_of p.address).first) (decimal (octets_of p.address).second) (decimal (octets_of p.address).third) (decimal (octets_of p.address).fourth) (decimal p.length))
+
+-- a test that holds for no digit, no dot and no slash
+pub record Avoids (t : ℕ → Bool) : Type 0 where
+  pub digit : (c : ℕ) → 48 ≤ c → c ≤ 57 → t c ≡ false
+  pub dot : t 46 ≡ false
+  pub slash : t 47 ≡ false
+
+joined_avoids : (t : ℕ → Bool) (b n : ℕ) (rest : List ℕ) → Avoids t → t b ≡ false → n < 2 ^ 64 → list_any t rest ≡ false → list_any t (decimal n ++ (b ∷ rest)) ≡ false
+joined_avoids t b n rest h mark small more =
+    list_any-append t (decimal n) (b ∷ rest)
+    ∙ or_from (list_any t (decimal n)) (t b || list_any t rest) (decimal_avoids t h.digit n small) (or_from (t b) (list_any t rest) mark more)
+
+dotted_avoids : (t : ℕ → Bool) (o : Octets) → Avoids t → AreOctets o → list_any t (dotted o) ≡ false
+dotted_avoids t o h a =
+    joined_avoids t 46 o.first (decimal o.second ++ (46 ∷ decimal o.third ++ (46 ∷ decimal o.fourth))) h h.dot (omega (arith, a.first))
+    (joined_avoids t 46 o.second (decimal o.third ++ (46 ∷ decimal o.fourth)) h h.dot (omega (arith, a.second))
+    (joined_avoids t 46 o.third (decimal o.fourth) h h.dot (omega (arith, a.third)) (decimal_avoids t h.digit o.fourth (omega (arith, a.fourth)))))
+
+-- it holds for no byte of an IPv4 prefix's text
+pub prefix_text_avoids : (t : ℕ → Bool) (p : PrefixParts) → Avoids t → IsPlain p → list_any t (prefix_text p) ≡ false
+unfolding prefix_text
+prefix_text_avoids t p h plain =
+    let s = small p plain.family plain.masked in
+    list_any-append t (dotted (octets_of p.address)) (47 ∷ decimal p.length)
+    ∙ or_from (list_any t (dotted (octets_of p.address))) (t 47 || list_any t (decimal p.length))
+      (dotted_avoids t (octets_of p.address) h (octets_within p.address s.0))
+      (or_from (t 47) (list_any t (decimal p.length)) h.slash (decimal_avoids t h.digit p.length (omega (arith, s.1))))
+
+append_starts : (front rest : List ℕ) → StartsWithDigit front → StartsWithDigit (front ++ rest)
+append_starts front rest h = record { first = h.first; behind = h.behind ++ rest; is = ap (λ (x : List ℕ). x ++ rest) h.is; digit = h.digit }
+
+-- an IPv4 prefix's text has a first byte, a digit
+pub prefix_text_starts : (p : PrefixParts) → IsPlain p → StartsWithDigit (prefix_text p)
+unfolding prefix_text
+prefix_text_starts p plain =
+    let o = octets_of p.address in
+    let s = small p plain.family plain.masked in
+    let first = decimal_starts o.first (omega (arith, s.0)) in
+    append_starts (dotted o) (47 ∷ decimal p.length) (append_starts (decimal o.first) (46 ∷ decimal o.second ++ (46 ∷ decimal o.third ++ (46 ∷ decimal o.fourth))) first)

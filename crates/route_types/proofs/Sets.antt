@@ -1,13 +1,13 @@
 -- A list in rising order without repeats is determined by its members, so the set of a list is the
 -- set of the same list in another order; and a list in order, without its repeats, is its set.
 use Rattle.std.proofs.Common.{◌≡◌, refl, sym, ap, subst, ◌∙◌, ℕ, ◌<◌, ◌≤◌, Bool, true, false, cond, ltb, eqb, ◌||◌, List, [], ◌∷◌, arith, inl, inr, ◌⊎◌}
-use Rattle.std.specs.Prelude.{◌==◌}
+use Rattle.std.specs.Prelude.{◌==◌, not, filter, ◌++◌}
 use Rattle.std.specs.List.{list_any, dedup}
 use Rattle.std.specs.List.Sorted.{IsPermutation}
 use Rattle.std.proofs.lemmas.Bool.{cases_order, eq-eqb, ne_eqb, lt-ltb, le-ltb, or_from}
 use Rattle.std.proofs.lemmas.List.Sorted.{list_any-IsPermutation}
 use Rattle.route_types.specs.declared.community.Community.{Community}
-use Rattle.route_types.specs.Community.{with_member, set_of, IsAscending}
+use Rattle.route_types.specs.Community.{RectParts, fits, with_member, set_of, set_after, IsAscending}
 
 -- the number is that of a member
 abbrev has : ℕ → List Community → Bool
@@ -27,19 +27,19 @@ ascending_from c [] b h = tt
 ascending_from c (d ∷ ds) b h = (b, h)
 
 -- the place of a new member before the member d
-member_before : (c d : Community) (ds : List Community) → c.0 < d.0 → with_member c (d ∷ ds) ≡ c ∷ d ∷ ds
+pub member_before : (c d : Community) (ds : List Community) → c.0 < d.0 → with_member c (d ∷ ds) ≡ c ∷ d ∷ ds
 member_before c d ds h = rw (lt-ltb c.0 d.0 h) refl
 
-member_behind : (c d : Community) (ds : List Community) → d.0 < c.0 → with_member c (d ∷ ds) ≡ d ∷ with_member c ds
+pub member_behind : (c d : Community) (ds : List Community) → d.0 < c.0 → with_member c (d ∷ ds) ≡ d ∷ with_member c ds
 member_behind c d ds h = rw (le-ltb c.0 d.0 (omega arith), lt-ltb d.0 c.0 h) refl
 
-member_there : (c d : Community) (ds : List Community) → c.0 ≡ d.0 → with_member c (d ∷ ds) ≡ d ∷ ds
+pub member_there : (c d : Community) (ds : List Community) → c.0 ≡ d.0 → with_member c (d ∷ ds) ≡ d ∷ ds
 member_there c d ds h = rw (le-ltb c.0 d.0 (omega arith), le-ltb d.0 c.0 (omega arith)) refl
 
-same_community : (c d : Community) → c.0 ≡ d.0 → c ≡ d
+pub same_community : (c d : Community) → c.0 ≡ d.0 → c ≡ d
 same_community c d e = ap (λ (n : ℕ). record { 0 = n }) e
 
-abbrev Order : ℕ → ℕ → Type 0
+abbrev pub Order : ℕ → ℕ → Type 0
 Order a b = (a ≡ b) ⊎ ((a < b) ⊎ (b < a))
 
 below_first_at : (n : ℕ) (c d : Community) (ds : List Community) → n < c.0 → n < d.0 → Order c.0 d.0 → IsBelowFirst n (with_member c (d ∷ ds))
@@ -143,3 +143,8 @@ ascending_same (x ∷ xs) (y ∷ ys) hx hy same = firsts_same x y xs ys hx hy sa
 pub set_of_permuted : (xs ys : List Community) → IsPermutation xs ys → set_of xs ≡ set_of ys
 set_of_permuted xs ys h =
     ascending_same (set_of xs) (set_of ys) (set_of_ascending xs) (set_of_ascending ys) (λ n. has-set_of n xs ∙ list_any-IsPermutation (λ c. c.0 == n) xs ys h ∙ sym (has-set_of n ys))
+
+-- what a change leaves is in rising order and without repeats
+pub set_after_ascending : (removed : List RectParts) (added old set : List Community) → set ≡ set_after removed added old → IsAscending set
+set_after_ascending removed added old set e =
+    subst IsAscending (sym e) (set_of_ascending (filter (λ c. not (list_any (λ r. fits r c) removed)) old ++ added))

@@ -77,9 +77,9 @@ address_in_found word a e =
       third = n3.within;
       fourth = n4.within;
       spelled = parts_at_found 46 word one.0 one.1
-        ∙ ap2 (λ (x y : List ℕ). x ++ (46 ∷ y)) n1.spelled (parts_at_found 46 one.0.1 two.0 two.1
-        ∙ ap2 (λ (x y : List ℕ). x ++ (46 ∷ y)) n2.spelled (parts_at_found 46 two.0.1 three.0 three.1
-        ∙ ap2 (λ (x y : List ℕ). x ++ (46 ∷ y)) n3.spelled n4.spelled));
+          ∙ ap2 (λ (x y : List ℕ). x ++ (46 ∷ y)) n1.spelled (parts_at_found 46 one.0.1 two.0 two.1
+          ∙ ap2 (λ (x y : List ℕ). x ++ (46 ∷ y)) n2.spelled (parts_at_found 46 two.0.1 three.0 three.1
+          ∙ ap2 (λ (x y : List ℕ). x ++ (46 ∷ y)) n3.spelled n4.spelled));
       value = sym (some_is _ a fourth.2);
     }
 
@@ -134,8 +134,8 @@ pub prefix_in_none : (word : List ℕ) → prefix_in word ≡ None → (p : Pref
 prefix_in_none word e p h =
     let a = h.spells_address in
     let k : prefix_in word ≡ Some (prefix_of (address_of a.octets) h.length) =
-      ap (λ (w : List ℕ). prefix_in w) (h.spelled ∙ ap (λ (x : List ℕ). x ++ (47 ∷ decimal h.length)) a.spelled)
-      ∙ prefix_in_spelled a.octets h.length (record { first = a.first; second = a.second; third = a.third; fourth = a.fourth }) h.within in
+    ap (λ (w : List ℕ). prefix_in w) (h.spelled ∙ ap (λ (x : List ℕ). x ++ (47 ∷ decimal h.length)) a.spelled)
+    ∙ prefix_in_spelled a.octets h.length (record { first = a.first; second = a.second; third = a.third; fourth = a.fourth }) h.within in
     absurd cc
 
 prefix_exactly : (word : List ℕ) (o : Option PrefixParts) → prefix_in word ≡ o → FindsExactly (IsPrefix word) o

@@ -65,7 +65,9 @@ pub(crate) fn front_bits(bits: u128, count: u8) -> u128
 fn without_last_bits(bits: u128, count: u8) -> u128
     ensures { result ≡ bits / 2 ^ count * 2 ^ count }
 {
-    front_bits(bits, count).checked_shl(u32::from(count)).unwrap_or(0)
+    front_bits(bits, count)
+        .checked_shl(u32::from(count))
+        .unwrap_or(0)
 }
 
 impl Prefix {

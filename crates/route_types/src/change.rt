@@ -1,9 +1,11 @@
-ghost use Rattle.std.specs.Prelude.{◌≡◌, IfOk};
+ghost use Rattle.std.specs.Prelude.{◌≡◌, ◌∷◌, IfOk};
+ghost use Rattle.route_types.specs.Community.{set_after};
 ghost use Rattle.route_types.specs.Change.{changed};
 
-use crate::community::CommChange;
+use crate::community::{CommChange, set_after};
 use crate::memory::Memory;
 use crate::route::{NextHop, Origin, Route};
+use crate::row::Row;
 use std::alloc::Global;
 
 /// A change of one attribute of a route.
@@ -17,4 +19,29 @@ pub enum Change {
     Med(u32),
     Weight(u16),
     Communities(CommChange),
+}
+
+/// The route with the change made: one attribute replaced, one AS number put before the path, or
+/// the set of communities changed. The one error is want of memory.
+pub fn apply_change(alloc: Global, route: &Route, change: &Change) -> Result<Route, Memory>
+    ensures { IfOk result (λ r. r ≡ changed change.now route.now) }
+{
+    let copy = route.copy(alloc)?;
+    match change {
+        Change::NextHop(next_hop) => Ok(copy.with_next_hop(*next_hop)),
+        Change::Prepend(number) => copy.with_number_in_front(*number),
+        Change::Origin(origin) => Ok(copy.with_origin(*origin)),
+        Change::LocalPreference(number) => Ok(copy.with_local_preference(*number)),
+        Change::Med(number) => Ok(copy.with_med(*number)),
+        Change::Weight(number) => Ok(copy.with_weight(*number)),
+        Change::Communities(change) => with_change(alloc, copy, change),
+    }
+}
+
+#[tactic(auto, using(crate::proofs::Sets::set_after_ascending))]
+fn with_change(alloc: Global, route: Route, change: &CommChange) -> Result<Route, Memory>
+    ensures { IfOk result (λ r. r ≡ record route { communities = set_after change.now.removed change.now.added route.communities }) }
+{
+    let set = set_after(alloc, change, route.communities())?;
+    Ok(route.with_communities(set))
 }

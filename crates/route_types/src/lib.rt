@@ -16,7 +16,7 @@ mod statement;
 mod words;
 
 pub use address::{Address, Family, Prefix};
-pub use change::Change;
+pub use change::{Change, apply_change};
 pub use community::{CommChange, Community, Rect};
 pub use fault::{Cause, CheckFault, RouteFault};
 pub use memory::Memory;
@@ -26,3 +26,6 @@ pub use route::{NextHop, Origin, Outcome, Route};
 pub use row::Row;
 pub use statement::{Ender, Span, Statement, Word};
 pub use words::{read_address, read_number, read_prefix};
+
+#[cfg(test)]
+mod tests;

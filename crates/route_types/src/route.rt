@@ -1,8 +1,11 @@
-ghost use Rattle.std.specs.Prelude.{◌≡◌};
+ghost use Rattle.std.specs.Prelude.{◌≡◌, ◌∷◌, IfOk};
+ghost use Rattle.route_types.specs.Community.{IsAscending};
 
 use crate::address::{Address, Prefix};
 use crate::community::Community;
+use crate::memory::Memory;
 use crate::row::Row;
+use std::alloc::Global;
 use std::marker::Model;
 
 /// The ORIGIN attribute (RFC 4271, section 5.1.1).
@@ -100,6 +103,74 @@ impl Route {
         ensures { result.now ≡ self.now.communities }
     {
         self.communities.as_slice()
+    }
+}
+
+impl Route {
+    pub(crate) fn copy(&self, alloc: Global) -> Result<Route, Memory>
+        ensures { IfOk result (λ r. r ≡ self.now) }
+    {
+        Ok(Route {
+            prefix: self.prefix,
+            next_hop: self.next_hop,
+            path: Row::from_slice(alloc, self.path())?,
+            origin: self.origin,
+            local_preference: self.local_preference,
+            med: self.med,
+            weight: self.weight,
+            communities: Row::from_slice(alloc, self.communities())?,
+        })
+    }
+
+    pub(crate) fn with_next_hop(self, next_hop: NextHop) -> Route
+        ensures { result ≡ record self { next_hop = next_hop } }
+    {
+        Route { next_hop, ..self }
+    }
+
+    pub(crate) fn with_number_in_front(self, number: u32) -> Result<Route, Memory>
+        ensures { IfOk result (λ r. r ≡ record self { path = number ∷ self.path }) }
+    {
+        let mut route = self;
+        route.path.push_front(number)?;
+        Ok(route)
+    }
+
+    pub(crate) fn with_origin(self, origin: Origin) -> Route
+        ensures { result ≡ record self { origin = origin } }
+    {
+        Route { origin, ..self }
+    }
+
+    pub(crate) fn with_local_preference(self, local_preference: u32) -> Route
+        ensures { result ≡ record self { local_preference = local_preference } }
+    {
+        Route {
+            local_preference,
+            ..self
+        }
+    }
+
+    pub(crate) fn with_med(self, med: u32) -> Route
+        ensures { result ≡ record self { med = med } }
+    {
+        Route { med, ..self }
+    }
+
+    pub(crate) fn with_weight(self, weight: u16) -> Route
+        ensures { result ≡ record self { weight = weight } }
+    {
+        Route { weight, ..self }
+    }
+
+    pub(crate) fn with_communities(self, communities: Row<Community>) -> Route
+        requires { IsAscending communities }
+        ensures { result ≡ record self { communities = communities } }
+    {
+        Route {
+            communities,
+            ..self
+        }
     }
 }
 

@@ -1,4 +1,4 @@
-ghost use Rattle.std.specs.Prelude.{◌≡◌, List, [], ◌∷◌, ◌++◌, length, if◌then◌else◌, is_ok, ◌==◌};
+ghost use Rattle.std.specs.Prelude.{◌≡◌, List, [], ◌∷◌, ◌++◌, length, if◌then◌else◌, is_ok, ◌==◌, IfOk};
 
 use crate::memory::Memory;
 use std::alloc::Global;
@@ -36,6 +36,27 @@ impl<T> Row<T> {
         ensures { result ≡ items.items }
     {
         Row { items }
+    }
+
+    // A row with a slice's items.
+    pub(crate) fn from_slice(alloc: Global, items: &[T]) -> Result<Row<T>, Memory>
+    where
+        T: Copy,
+        ensures { IfOk result (λ r. r ≡ items.now) }
+    {
+        Ok(Row {
+            items: Vec::from_slice(alloc, items)?,
+        })
+    }
+
+    // Puts an item in front of the others.
+    pub(crate) fn push_front(&mut self, item: T) -> Result<(), Memory>
+    where
+        T: Drop,
+        ensures { IfOk result (λ _. self.new ≡ item ∷ self.old) }
+    {
+        self.items.insert(0, item)?;
+        Ok(())
     }
 
     /// The items as a vector. It takes no memory.
