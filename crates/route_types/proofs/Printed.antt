@@ -130,8 +130,8 @@ prefix_text_avoids t p h plain =
     let s = small p plain.family plain.masked in
     list_any-append t (dotted (octets_of p.address)) (47 ∷ decimal p.length)
     ∙ or_from (list_any t (dotted (octets_of p.address))) (t 47 || list_any t (decimal p.length))
-      (dotted_avoids t (octets_of p.address) h (octets_within p.address s.0))
-      (or_from (t 47) (list_any t (decimal p.length)) h.slash (decimal_avoids t h.digit p.length (omega (arith, s.1))))
+    (dotted_avoids t (octets_of p.address) h (octets_within p.address s.0))
+    (or_from (t 47) (list_any t (decimal p.length)) h.slash (decimal_avoids t h.digit p.length (omega (arith, s.1))))
 
 append_starts : (front rest : List ℕ) → StartsWithDigit front → StartsWithDigit (front ++ rest)
 append_starts front rest h = record { first = h.first; behind = h.behind ++ rest; is = ap (λ (x : List ℕ). x ++ rest) h.is; digit = h.digit }

@@ -107,12 +107,17 @@ fn printed(rt: HostRuntime) -> Result<(), Memory> {
     assert_eq!(rt; text.as_slice(), b"10.1.2.128/25".as_slice());
     push_number(&mut text, 0)?;
     push_number(&mut text, u64::MAX)?;
-    assert_eq!(rt; text.as_slice(), b"10.1.2.128/25018446744073709551615".as_slice());
+    assert_eq!(rt;
+        text.as_slice(),
+        b"10.1.2.128/25018446744073709551615".as_slice()
+    );
     Ok(())
 }
 
 const A1: Community = Community(65001 * 65536 + 1);
+
 const A5: Community = Community(65001 * 65536 + 5);
+
 const B1: Community = Community(65002 * 65536 + 1);
 
 fn changes(alloc: Global, removed: &[Rect], added: &[Community]) -> Result<Change, Memory> {
