@@ -1,14 +1,13 @@
 -- Worked examples that the checker computes.
-use Rattle.std.proofs.Common.{◌≡◌, refl, List, [], ◌∷◌, ◌++◌, ℕ, true, false}
-use Rattle.std.specs.Prelude.{Some, None, codes, map, option_map, Option}
+use Rattle.std.proofs.Common.{◌≡◌, refl, lit<, lit≤, List, [], ◌∷◌, ◌++◌, ℕ, true}
+use Rattle.std.specs.Prelude.{Some, None, codes, option_map}
 use Rattle.std.specs.Fmt.{digits}
 use Rattle.route_types.specs.Text.{lines_at}
-use Rattle.route_types.specs.Words.{number_in, prefix_in, parts_at, address_in, ◌>>=◌}
+use Rattle.route_types.specs.Words.{number_in, prefix_in, parts_at, address_in}
 use Rattle.route_types.specs.Route.{RouteParts}
 use Rattle.route_types.specs.declared.address.Family.TheVariants.{V4}
 use Rattle.route_types.specs.declared.route.NextHop.TheVariants.{Own}
 use Rattle.route_types.specs.declared.route.Origin.TheVariants.{Igp}
-use Rattle.route_types.specs.declared.route.Outcome.{Outcome}
 use Rattle.route_types.specs.declared.route.Outcome.TheVariants.{Reject, Accept}
 use Rattle.rpl_reader.specs.Words.{words_at}
 use Rattle.rpl_reader.specs.Cut.{rpl_cut, cut_from}
@@ -18,8 +17,9 @@ use Rattle.route_types.specs.Range.{RangeParts}
 use Rattle.route_types.specs.Print.{prefix_text}
 use Rattle.rpl_reader.specs.Layout.{Step, policy_text, steps_text, actions_text, preferences_text, sets_text, set_text, elements_text, element_text, policy_forms, steps_forms, actions_forms, sets_forms, set_forms}
 use Rattle.rpl_reader.specs.Meaning.{run, rpl_meaning}
+use Rattle.rpl_reader.specs.Written.{IsWritable}
 use Rattle.rpl_reader.specs.declared.item.RplForm.{RplForm}
-use Rattle.rpl_reader.specs.declared.item.RplForm.TheVariants.{PrefixSet, Element, RoutePolicy, If, EndIf, SetLocalPreference, Done, Drop, End, Other}
+use Rattle.rpl_reader.specs.declared.item.RplForm.TheVariants.{PrefixSet, Element, RoutePolicy, If, EndIf, SetLocalPreference, Done, Drop, End}
 use Rattle.rpl_reader.specs.declared.item.RplTest.TheVariants.{Destination}
 
 -- lines, each with its LF
@@ -75,3 +75,12 @@ written = refl
 read_again : option_map forms (rpl_tree (policy_text (codes "P") sample_sets sample_steps)) ≡ Some (policy_forms (codes "P") sample_sets sample_steps)
 unfolding digits policy_text steps_text actions_text preferences_text sets_text set_text elements_text element_text prefix_text policy_forms steps_forms actions_forms sets_forms set_forms rpl_tree items_of is_whole header_form statement_form rpl_cut cut_from words_at lines_at element_in prefix_set_in policy_header_in if_in set_in single_word_in number_in prefix_in parts_at address_in
 read_again = refl
+
+-- the sample can be written
+writable : IsWritable (codes "P") sample_sets sample_steps
+writable = record {
+  named = refl;
+  few = lit< tt;
+  ranges = ((record { family = refl; prefix = record { fits = lit< tt; within = lit≤ tt; masked = refl }; least = lit≤ tt; rises = lit≤ tt; most = lit≤ tt }, tt), tt);
+  steps_fit = (record { guard = lit< tt; preferences = (lit< tt, tt) }, tt);
+}

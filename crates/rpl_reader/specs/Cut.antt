@@ -1,7 +1,7 @@
 -- The cut of an RPL text. Outside blocks each line is a statement. The line that opens a block is a
 -- statement with all its words; within a block line ends are blanks. In a set the word lists between
 -- commas are statements; in a policy a statement starts at certain words.
-use Rattle.std.specs.Prelude.{ℕ, Bool, true, false, ◌&&◌, ◌||◌, not, ◌==◌, List, [], ◌∷◌, Option, Some, None, codes, bytes_eq, flat_map, map}
+use Rattle.std.specs.Prelude.{ℕ, Bool, true, false, ◌&&◌, ◌||◌, not, List, [], ◌∷◌, Option, Some, None, codes, bytes_eq, flat_map, map}
 use Rattle.std.specs.List.{list_any}
 use Rattle.route_types.specs.Text.{starts_with_byte, Line, lines_at}
 use Rattle.route_types.specs.declared.statement.Span.{Span}

@@ -1,5 +1,5 @@
 -- Which form a statement has: the functions that find it. A quoted word is no keyword and no value here.
-use Rattle.std.specs.Prelude.{ℕ, ◌-◌, ◌^◌, Bool, true, false, ◌&&◌, ◌||◌, not, List, [], ◌∷◌, Option, Some, None, codes, bytes_eq, nat_le, option_map}
+use Rattle.std.specs.Prelude.{ℕ, ◌-◌, ◌^◌, Bool, true, false, ◌&&◌, not, List, [], ◌∷◌, Option, Some, None, codes, bytes_eq, nat_le, option_map}
 use Rattle.std.specs.List.{list_any}
 use Rattle.route_types.specs.Words.{◌>>=◌, when, number_in, address_in, prefix_in}
 use Rattle.route_types.specs.Text.{starts_with_byte}
@@ -9,7 +9,7 @@ use Rattle.route_types.specs.Address.{PrefixParts, prefix_of}
 use Rattle.route_types.specs.Range.{RangeParts}
 use Rattle.route_types.specs.declared.statement.Word.{Word}
 use Rattle.rpl_reader.specs.declared.item.RplForm.{RplForm}
-use Rattle.rpl_reader.specs.declared.item.RplForm.TheVariants.{PrefixSet, Element, RoutePolicy, If, EndIf, SetLocalPreference, Done, Drop}
+use Rattle.rpl_reader.specs.declared.item.RplForm.TheVariants.{PrefixSet, RoutePolicy, If, EndIf, SetLocalPreference, Done, Drop}
 use Rattle.rpl_reader.specs.declared.item.RplTest.TheVariants.{Destination}
 use Rattle.rpl_reader.specs.Cut.{starts}
 

@@ -1,6 +1,6 @@
 -- The layout in which the product writes RPL: the prefix sets first, then the policy, step by step.
 -- `policy_text` is the text, and `policy_forms` what the text says, form by form.
-use Rattle.std.specs.Prelude.{ℕ, ◌+◌, Bool, true, false, ◌==◌, List, [], ◌∷◌, ◌++◌, Option, Some, None, codes, decimal, map, flat_map}
+use Rattle.std.specs.Prelude.{ℕ, ◌+◌, Bool, true, false, ◌==◌, List, [], ◌∷◌, ◌++◌, Option, Some, None, codes, decimal, map}
 use Rattle.route_types.specs.Print.{prefix_text}
 use Rattle.route_types.specs.Range.{RangeParts}
 use Rattle.rpl_reader.specs.declared.item.RplForm.{RplForm}

@@ -10,7 +10,6 @@ use Rattle.rpl_reader.specs.declared.item.BlockKind.{BlockKind}
 use Rattle.rpl_reader.specs.declared.item.BlockKind.TheVariants.{PrefixSet as PrefixSetKind, CommunitySet, PathSet, Policy}
 use Rattle.rpl_reader.specs.declared.item.RplForm.{RplForm}
 use Rattle.rpl_reader.specs.declared.item.RplForm.TheVariants.{PrefixSet, Element, RoutePolicy, If, EndIf, SetLocalPreference, Done, Drop, End, Other}
-use Rattle.rpl_reader.specs.declared.item.RplTest.{RplTest}
 use Rattle.rpl_reader.specs.declared.item.RplTest.TheVariants.{Destination}
 
 -- the name is this one

@@ -1,6 +1,6 @@
 -- The tree of an RPL text: the blocks and their statements, each with its form. It reads as none where
 -- a block does not end, or where `elseif`, `else`, `endif` or `end-policy` stands out of its place.
-use Rattle.std.specs.Prelude.{ℕ, Bool, true, false, ◌&&◌, ◌||◌, not, List, [], ◌∷◌, Option, Some, None, codes, bytes_eq, option_map, option_and_then, slice_get, map}
+use Rattle.std.specs.Prelude.{ℕ, Bool, true, false, ◌&&◌, List, [], ◌∷◌, Option, Some, None, codes, option_map, slice_get, map}
 use Rattle.route_types.specs.Words.{◌>>=◌, when}
 use Rattle.route_types.specs.Names.{first_some, or_else}
 use Rattle.route_types.specs.declared.statement.Word.{Word}

@@ -3,7 +3,6 @@
 use Rattle.std.specs.Prelude.{ℕ, ◌+◌, Bool, true, false, ◌&&◌, ◌||◌, not, ◌==◌, List, [], ◌∷◌}
 use Rattle.std.specs.List.{list_any}
 use Rattle.route_types.specs.Text.{is_blank}
-use Rattle.route_types.specs.declared.statement.Span.{Span}
 use Rattle.route_types.specs.declared.statement.Word.{Word}
 
 -- a parenthesis or a comma

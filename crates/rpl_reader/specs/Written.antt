@@ -1,5 +1,5 @@
 -- What is asked of a policy that is written, and what its steps mean.
-use Rattle.std.specs.Prelude.{◌≡◌, ℕ, ◌+◌, ◌<◌, ◌≤◌, ◌^◌, Bool, true, false, ◌&&◌, ◌||◌, nat_le, ◌==◌, List, [], ◌∷◌, length, Option, Some, None, IfSome, IsTrue, slice_get, unwrap_or, map}
+use Rattle.std.specs.Prelude.{◌≡◌, ℕ, ◌<◌, ◌≤◌, ◌^◌, Bool, true, false, ◌&&◌, ◌||◌, nat_le, ◌==◌, List, [], ◌∷◌, length, Option, Some, None, IfSome, slice_get, unwrap_or, map}
 use Rattle.std.specs.List.{list_any, list_all, AllByRecursion}
 use Rattle.route_types.specs.Address.{IsMasked}
 use Rattle.route_types.specs.Range.{RangeParts, in_range}

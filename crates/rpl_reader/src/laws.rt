@@ -1,0 +1,27 @@
+//! The laws of a written policy, each the contract of a function that does nothing.
+
+ghost use Rattle.std.specs.Prelude.{◌≡◌, ℕ, List, Option, Some};
+ghost use Rattle.route_types.specs.Range.{RangeParts};
+ghost use Rattle.route_types.specs.Route.{RouteParts};
+ghost use Rattle.rpl_reader.specs.declared.item.RplItem.{RplItem};
+ghost use Rattle.rpl_reader.specs.Layout.{Step, policy_text, policy_forms};
+ghost use Rattle.rpl_reader.specs.Meaning.{rpl_meaning};
+ghost use Rattle.rpl_reader.specs.Profile.{InProfile};
+ghost use Rattle.rpl_reader.specs.Tree.{rpl_tree, forms};
+ghost use Rattle.rpl_reader.specs.Written.{IsWritable, steps_outcome};
+
+/// A policy that is written reads back: the tree of its text says what the policy says, form by form.
+/// A policy is written under a name of at most 63 letters, digits, `-` and `_`, the first a letter.
+pub fn written_reads_back()
+    ensures { (name : List ℕ) (sets : List (List RangeParts)) (steps : List Step) → IsWritable name sets steps → (tree : List RplItem) × (rpl_tree (policy_text name sets steps) ≡ Some tree) × (forms tree ≡ policy_forms name sets steps) }
+{}
+
+/// What a written policy says is in profile.
+pub fn written_is_in_profile()
+    ensures { (name : List ℕ) (sets : List (List RangeParts)) (steps : List Step) → IsWritable name sets steps → InProfile name (policy_forms name sets steps) }
+{}
+
+/// What a written policy says means what its steps mean, on every route.
+pub fn written_means_its_steps()
+    ensures { (name : List ℕ) (sets : List (List RangeParts)) (steps : List Step) → IsWritable name sets steps → (r : RouteParts) → rpl_meaning (policy_forms name sets steps) name r ≡ steps_outcome sets r steps }
+{}
