@@ -1,0 +1,56 @@
+// What the store is made of: the want of memory, Ids and nodes.
+ghost use Rattle.std.specs.Prelude.{◌≡◌, ℕ};
+
+use std::alloc::{AllocError, AllocFailed};
+use std::fmt;
+use std::marker::Model;
+
+/// Want of memory, and nothing else.
+#[derive(Clone, Copy, Debug, PartialEq, Eq)]
+pub struct Memory;
+
+impl fmt::Display for Memory {
+    fn fmt<W: fmt::Write>(&self, f: &mut fmt::Formatter<W>) -> fmt::Result {
+        write!(f, "out of memory")
+    }
+}
+
+impl From<AllocError> for Memory {
+    fn from(_error: AllocError) -> Memory {
+        Memory
+    }
+}
+
+impl<T: Drop> From<AllocFailed<T>> for Memory {
+    fn from(_refused: AllocFailed<T>) -> Memory {
+        Memory
+    }
+}
+
+/// The name of a set of bit lists within one store: 0 is the empty set, 1 the set of all lists, and
+/// each node of the store has the next number. Two Ids of one store are equal exactly where their
+/// sets are.
+#[derive(Clone, Copy, Debug, PartialEq, Eq, Hash)]
+pub struct Id(pub(crate) usize);
+
+impl Model for Id {
+    ghost Value = { ℕ };
+
+    ghost view = { λ id. id.0 };
+
+    ghost inverse = { λ n. record { 0 = n } };
+}
+
+/// The Id of the empty set.
+pub(crate) const FALSE: Id = Id(0);
+
+/// The Id of the set of all lists.
+pub(crate) const TRUE: Id = Id(1);
+
+// A node: on a list whose bit at `place` is true it leads to `high`, else to `low`.
+#[derive(Clone, Copy, Debug, PartialEq, Eq, Hash)]
+pub struct Node {
+    pub place: usize,
+    pub low: Id,
+    pub high: Id,
+}
