@@ -1,3 +1,4 @@
 pub mod NodeLemmas
 pub mod HoldsLemmas
 pub mod SameLemmas
+pub mod StoreLemmas

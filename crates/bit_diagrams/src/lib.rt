@@ -4,9 +4,11 @@
 //! which facts its nodes keep, `Meaning` on which bits an Id holds.
 #![tactic(auto)]
 
+mod apply;
 mod bit_list;
 mod parts;
 mod store;
+mod waiting;
 
 pub use bit_list::Bits;
 pub use parts::{Id, Memory};

@@ -1,5 +1,5 @@
 // What the store is made of: the want of memory, Ids and nodes.
-ghost use Rattle.std.specs.Prelude.{◌≡◌, ℕ};
+ghost use Rattle.std.specs.Prelude.{◌≡◌, ◌<◌, ℕ, length};
 
 use std::alloc::{AllocError, AllocFailed};
 use std::fmt;
@@ -53,4 +53,20 @@ pub struct Node {
     pub place: usize,
     pub low: Id,
     pub high: Id,
+}
+
+impl Node {
+    ghost use Rattle.bit_diagrams.specs.Meaning.{child_on};
+
+    // The child that the bit at the node's place chooses.
+    pub(crate) fn child(self, values: &[bool]) -> Id
+        requires { self.place < length values.now }
+        ensures { result ≡ child_on self values.now }
+    {
+        if values[self.place] {
+            self.high
+        } else {
+            self.low
+        }
+    }
 }

@@ -1,6 +1,7 @@
 // A store and its Ids: what a store keeps, its constants, its bits and its nodes.
-ghost use Rattle.std.specs.Prelude.{◌≡◌, ◌≢◌, ℕ, ◌+◌, ◌<◌, ◌≤◌, Bool, List, [], ◌++◌, length, IfOk, OnErr, MatchResult};
+ghost use Rattle.std.specs.Prelude.{◌≡◌, ◌-◌, ◌^◌, ◌<◌, ◌≤◌, [], length, drop, IfOk, OnErr};
 
+use crate::bit_list::Bits;
 use crate::parts::{FALSE, Id, Memory, Node, TRUE};
 use indexmap::IndexSet;
 use std::alloc::Global;
@@ -27,8 +28,9 @@ impl Model for Diagrams {
 }
 
 impl Diagrams {
-    ghost use Rattle.bit_diagrams.specs.Store.{Store, ids, constant_id, IsIdOf, node_at, place_of, AreNodes, IsStore};
-    ghost use Rattle.bit_diagrams.specs.Meaning.{holds_on, holds, Stands, Keeps};
+    ghost use Rattle.bit_diagrams.specs.Store.{constant_id, IsIdOf, node_at, place_of, IsStore};
+    ghost use Rattle.bit_diagrams.specs.Meaning.{holds, Stands, Keeps};
+    ghost use Rattle.bit_diagrams.specs.Choice.{Grows, IsBranch};
 
     /// A store with this many places and no nodes.
     pub fn new(alloc: Global, places: usize) -> Result<Diagrams, Memory>
@@ -51,7 +53,9 @@ impl Diagrams {
 
     /// The number of nodes of the store.
     pub fn len(&self) -> usize
-        ensures { result ≡ length self.now.nodes }
+        ensures len { result ≡ length self.now.nodes }
+        ensures small { length self.now.nodes < 2 ^ 63 }
+        ensures facts { IsStore self.now }
     {
         self.nodes.len()
     }
@@ -62,5 +66,74 @@ impl Diagrams {
         ensures made { Stands self.now result (λ _. value) }
     {
         if value { TRUE } else { FALSE }
+    }
+
+    /// Whether the Id holds on the bits, one bit a place; it takes no memory.
+    pub fn holds(&self, id: Id, bits: &Bits) -> bool
+        requires of_store { IsIdOf self.now id }
+        requires full { length bits.now ≡ self.now.places }
+        ensures { result ≡ holds self.now id bits.now }
+    {
+        let values = bits.as_slice();
+        let mut at = id;
+        while let Some(node) = self.node(at) {
+            at = node.child(values);
+        }
+        at == TRUE
+    }
+
+    // The allocator that the store keeps.
+    pub(crate) fn allocator(&self) -> Global {
+        self.alloc
+    }
+
+    // The node that an Id names; the constants name none.
+    pub(crate) fn node(&self, id: Id) -> Option<Node>
+        ensures node { result ≡ node_at self.now.nodes id }
+        ensures facts { IsStore self.now }
+    {
+        let nodes = &self.nodes;
+        if id.0 < 2 {
+            return None;
+        }
+        nodes.get_index(id.0 - 2).copied()
+    }
+
+    // The place that an Id tests first, or the number of places for a constant.
+    pub(crate) fn place_of(&self, id: Id) -> usize
+        ensures { result ≡ place_of self.now.places self.now.nodes id }
+    {
+        match self.node(id) {
+            None => self.places,
+            Some(node) => node.place,
+        }
+    }
+
+    // The Id of a node with these children: the child itself where both are one.
+    pub(crate) fn branch(&mut self, node: Node) -> Result<Id, Memory>
+        requires within { node.place < self.old.places }
+        requires of_low { IsIdOf self.old node.low }
+        requires of_high { IsIdOf self.old node.high }
+        requires low_rises { node.place < place_of self.old.places self.old.nodes node.low }
+        requires high_rises { node.place < place_of self.old.places self.old.nodes node.high }
+        ensures made { IfOk result (IsBranch self.new node) }
+        ensures grows { Grows self.old self.new }
+        ensures err { OnErr result (self.new ≡ self.old) }
+    {
+        if node.low == node.high {
+            return Ok(node.low);
+        }
+        let _count = self.nodes.len();
+        let (index, _) = self.nodes.insert_full(node)?;
+        Ok(Id(index + 2))
+    }
+
+    // Takes the nodes after the first `count` away.
+    pub(crate) fn restore(&mut self, count: usize)
+        requires { count ≤ length self.old.nodes }
+        ensures places { self.new.places ≡ self.old.places }
+        ensures nodes { self.new.nodes ≡ drop (length self.old.nodes - count) self.old.nodes }
+    {
+        self.nodes.truncate(count);
     }
 }
