@@ -2,3 +2,5 @@ pub mod NodeLemmas
 pub mod HoldsLemmas
 pub mod SameLemmas
 pub mod StoreLemmas
+pub mod ChoiceLemmas
+pub mod WorkLemmas

@@ -20,10 +20,10 @@ pub enum Step {
 }
 
 // The answer that was found for a choice.
-fn recall(memo: &Memo, choice: Choice) -> Option<Id>
-    ensures { result ≡ answer_in memo.now choice }
+fn recall(memo: &Memo, choice: &Choice) -> Option<Id>
+    ensures { result ≡ answer_in memo.now choice.now }
 {
-    memo.get(&choice).copied()
+    memo.get(choice).copied()
 }
 
 // Keeps an answer.
@@ -47,7 +47,7 @@ impl Diagrams {
         let mut waiting = Waiting::new(alloc);
         let mut current = start;
         loop {
-            match self.next_step(&memo, current) {
+            match self.next_step(&memo, &current) {
                 Step::Descend(half) => {
                     waiting.push(current)?;
                     current = half;
@@ -65,28 +65,29 @@ impl Diagrams {
     }
 
     // What to do next about a choice that is open.
-    fn next_step(&self, memo: &Memo, choice: Choice) -> Step
-        requires choice_is_open { IsOpen self.now (answer_in memo.now) choice }
+    fn next_step(&self, memo: &Memo, choice: &Choice) -> Step
+        requires choice_is_open { IsOpen self.now (answer_in memo.now) choice.now }
         requires sound { IsSound self.now (answer_in memo.now) }
-        ensures { IsStepFor self.now (answer_in memo.now) choice result }
+        ensures step { IsStepFor self.now (answer_in memo.now) choice.now result }
+        ensures facts { IsStore self.now }
     {
         let place = self.choice_place(choice);
         let low_half = self.half(choice, place, false);
-        let Some(low) = self.known(memo, low_half) else {
+        let Some(low) = self.known(memo, &low_half) else {
             return Step::Descend(low_half);
         };
         let high_half = self.half(choice, place, true);
-        let Some(high) = self.known(memo, high_half) else {
+        let Some(high) = self.known(memo, &high_half) else {
             return Step::Descend(high_half);
         };
         Step::Join(Node { place, low, high })
     }
 
     // The answer of a choice, where it shows at once or was found.
-    fn known(&self, memo: &Memo, choice: Choice) -> Option<Id>
-        requires of_store { IsChoiceOf self.now choice }
+    fn known(&self, memo: &Memo, choice: &Choice) -> Option<Id>
+        requires of_store { IsChoiceOf self.now choice.now }
         requires sound { IsSound self.now (answer_in memo.now) }
-        ensures { MatchOption result (IsOpen self.now (answer_in memo.now) choice) (IsAnswer self.now choice) }
+        ensures { MatchOption result (IsOpen self.now (answer_in memo.now) choice.now) (IsAnswer self.now choice.now) }
     {
         match self.simple(choice) {
             Some(id) => Some(id),
@@ -95,11 +96,10 @@ impl Diagrams {
     }
 
     // The answer of a choice where it shows at once.
-    pub(crate) fn simple(&self, choice: Choice) -> Option<Id>
-        requires { IsChoiceOf self.now choice }
-        ensures { MatchOption result (2 ≤ choice.test) (IsAnswer self.now choice) }
+    pub(crate) fn simple(&self, choice: &Choice) -> Option<Id>
+        requires { IsChoiceOf self.now choice.now }
+        ensures { MatchOption result (2 ≤ choice.now.test) (IsAnswer self.now choice.now) }
     {
-        let _ = self.places();
         if choice.test == FALSE {
             return Some(choice.low);
         }
@@ -113,19 +113,20 @@ impl Diagrams {
     }
 
     // The first place that a choice looks at.
-    fn choice_place(&self, choice: Choice) -> usize
-        ensures { result ≡ choice_place self.now choice }
+    fn choice_place(&self, choice: &Choice) -> usize
+        ensures place { result ≡ choice_place self.now choice.now }
+        ensures facts { IsStore self.now }
     {
         let others = self.place_of(choice.high).min(self.place_of(choice.low));
         self.place_of(choice.test).min(others)
     }
 
     // The choice, where the bit at the place is known.
-    fn half(&self, choice: Choice, place: usize, value: bool) -> Choice
-        requires of_store { IsChoiceOf self.now choice }
-        requires first { place ≡ choice_place self.now choice }
+    fn half(&self, choice: &Choice, place: usize, value: bool) -> Choice
+        requires of_store { IsChoiceOf self.now choice.now }
+        requires first { place ≡ choice_place self.now choice.now }
         requires within { place < self.now.places }
-        ensures { IsHalf self.now choice place value result }
+        ensures { IsHalf self.now choice.now place value result }
     {
         Choice {
             test: self.cofactor(choice.test, place, value),

@@ -101,7 +101,8 @@ impl Diagrams {
 
     // The place that an Id tests first, or the number of places for a constant.
     pub(crate) fn place_of(&self, id: Id) -> usize
-        ensures { result ≡ place_of self.now.places self.now.nodes id }
+        ensures place { result ≡ place_of self.now.places self.now.nodes id }
+        ensures facts { IsStore self.now }
     {
         match self.node(id) {
             None => self.places,
