@@ -4,3 +4,4 @@ pub mod SameLemmas
 pub mod StoreLemmas
 pub mod ChoiceLemmas
 pub mod WorkLemmas
+pub mod StepLemmas

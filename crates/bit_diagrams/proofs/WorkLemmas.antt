@@ -64,7 +64,7 @@ open_count answer n =
 pub work_left : Store → (Choice → Option ℕ) → Choice → ℕ
 work_left first answer current = open_count answer (ids first.nodes) * (first.places + 1) + (first.places - choice_place first current)
 
-same_choice-true : (a b : Choice) → same_choice a b ≡ true → a ≡ b
+pub same_choice-true : (a b : Choice) → same_choice a b ≡ true → a ≡ b
 same_choice-true a b e =
     let first = and_parts (a.test == b.test) (a.high == b.high && a.low == b.low) e in
     let others = and_parts (a.high == b.high) (a.low == b.low) first.1 in

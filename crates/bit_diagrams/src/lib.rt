@@ -6,6 +6,7 @@
 
 mod apply;
 mod bit_list;
+mod calls;
 mod parts;
 mod store;
 mod waiting;
