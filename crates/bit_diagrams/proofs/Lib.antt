@@ -5,3 +5,5 @@ pub mod StoreLemmas
 pub mod ChoiceLemmas
 pub mod WorkLemmas
 pub mod StepLemmas
+pub mod CallLemmas
+pub mod FindLemmas

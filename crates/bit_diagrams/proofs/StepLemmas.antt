@@ -34,7 +34,7 @@ choice_of-grows old new c g of =
       of_low = k.of_store c.low of.of_low;
     }
 
-choice_holds-grows : (old new : Store) (c : Choice) (bits : List Bool) → Grows old new → IsChoiceOf old c → choice_holds new c bits ≡ choice_holds old c bits
+pub choice_holds-grows : (old new : Store) (c : Choice) (bits : List Bool) → Grows old new → IsChoiceOf old c → choice_holds new c bits ≡ choice_holds old c bits
 choice_holds-grows old new c bits g of =
     let k = keeps_grows old new g in
     let t = k.exact c.test of.of_test bits in

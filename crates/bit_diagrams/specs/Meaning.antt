@@ -1,7 +1,7 @@
 -- What an Id stands for: the lists of bits, one bit a place, on which it holds.
-use Rattle.std.specs.Prelude.{◌≡◌, ℕ, ◌<◌, Bool, true, false, List, [], ◌∷◌, length, if◌then◌else◌, ◌==◌, slice_index_or}
+use Rattle.std.specs.Prelude.{◌≡◌, ◌≢◌, ℕ, ◌<◌, Bool, true, false, List, [], ◌∷◌, length, Option, Some, None, if◌then◌else◌, ◌==◌, slice_index_or}
 use Rattle.bit_diagrams.specs.declared.parts.Node.{Node}
-use Rattle.bit_diagrams.specs.Store.{Store, ids, IsIdOf}
+use Rattle.bit_diagrams.specs.Store.{Store, ids, constant_id, IsIdOf}
 
 -- the child of a node that the bit at its place chooses
 abbrev pub child_on : Node → List Bool → ℕ
@@ -26,3 +26,8 @@ pub record Keeps (old new : Store) : Type 0 where
   pub places : new.places ≡ old.places
   pub of_store : (id : ℕ) → IsIdOf old id → IsIdOf new id
   pub exact : (id : ℕ) → IsIdOf old id → (bits : List Bool) → holds new id bits ≡ holds old id bits
+
+-- what may be found for an Id: nothing exactly for that of false, and then it holds on no bits; else bits on which it holds
+abbrev pub Finds : Store → ℕ → Option (List Bool) → Type 0
+Finds s id None = (id ≡ constant_id false) × ((bits : List Bool) → length bits ≡ s.places → holds s id bits ≡ false)
+Finds s id (Some bits) = (id ≢ constant_id false) × (length bits ≡ s.places) × (holds s id bits ≡ true)

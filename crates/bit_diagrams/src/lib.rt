@@ -8,6 +8,7 @@ mod apply;
 mod bit_list;
 mod calls;
 mod parts;
+mod search;
 mod store;
 mod waiting;
 

@@ -1,5 +1,5 @@
 // What the store is made of: the want of memory, Ids and nodes.
-ghost use Rattle.std.specs.Prelude.{◌≡◌, ◌<◌, ℕ, length};
+ghost use Rattle.std.specs.Prelude.{◌≡◌, ◌==◌, ◌<◌, ℕ, not, length, slice_set};
 
 use std::alloc::{AllocError, AllocFailed};
 use std::fmt;
@@ -59,14 +59,22 @@ impl Node {
     ghost use Rattle.bit_diagrams.specs.Meaning.{child_on};
 
     // The child that the bit at the node's place chooses.
-    pub(crate) fn child(self, values: &[bool]) -> Id
-        requires { self.place < length values.now }
-        ensures { result ≡ child_on self values.now }
+    pub(crate) fn child(&self, values: &[bool]) -> Id
+        requires { self.now.place < length values.now }
+        ensures { result ≡ child_on self.now values.now }
     {
         if values[self.place] {
             self.high
         } else {
             self.low
         }
+    }
+
+    // Writes the bit that leads to a child that is not false, to `high` where it may.
+    pub(crate) fn write_way(&self, values: &mut [bool])
+        requires { self.now.place < length values.old }
+        ensures { values.new ≡ slice_set values.old self.now.place (not (self.now.high == 0)) }
+    {
+        values[self.place] = self.high != FALSE;
     }
 }
