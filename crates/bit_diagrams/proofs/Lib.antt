@@ -7,3 +7,4 @@ pub mod WorkLemmas
 pub mod StepLemmas
 pub mod CallLemmas
 pub mod FindLemmas
+pub mod Examples

@@ -13,5 +13,8 @@ mod store;
 mod waiting;
 
 pub use bit_list::Bits;
-pub use parts::{Id, Memory};
+pub use parts::{Id, Memory, Node};
 pub use store::Diagrams;
+
+#[cfg(test)]
+mod tests;

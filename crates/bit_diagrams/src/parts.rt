@@ -2,6 +2,7 @@
 ghost use Rattle.std.specs.Prelude.{◌≡◌, ◌==◌, ◌<◌, ℕ, not, length, slice_set};
 
 use std::alloc::{AllocError, AllocFailed};
+use std::error::Error;
 use std::fmt;
 use std::marker::Model;
 
@@ -14,6 +15,8 @@ impl fmt::Display for Memory {
         write!(f, "out of memory")
     }
 }
+
+impl Error for Memory {}
 
 impl From<AllocError> for Memory {
     fn from(_error: AllocError) -> Memory {
@@ -47,11 +50,15 @@ pub(crate) const FALSE: Id = Id(0);
 /// The Id of the set of all lists.
 pub(crate) const TRUE: Id = Id(1);
 
-// A node: on a list whose bit at `place` is true it leads to `high`, else to `low`.
+/// A node of a store: on a list whose bit at its place is true it leads to one child, else to the
+/// other.
 #[derive(Clone, Copy, Debug, PartialEq, Eq, Hash)]
 pub struct Node {
+    /// The place of the bit that it tests.
     pub place: usize,
+    /// Where it leads if the bit is false.
     pub low: Id,
+    /// Where it leads if the bit is true.
     pub high: Id,
 }
 

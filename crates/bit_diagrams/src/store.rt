@@ -87,8 +87,9 @@ impl Diagrams {
         self.alloc
     }
 
-    // The node that an Id names; the constants name none.
-    pub(crate) fn node(&self, id: Id) -> Option<Node>
+    /// The node that an Id names; the constants name none, nor does an Id that is not of this store. It
+    /// takes no memory.
+    pub fn node(&self, id: Id) -> Option<Node>
         ensures node { result ≡ node_at self.now.nodes id }
         ensures facts { IsStore self.now }
     {
