@@ -4,7 +4,7 @@ use Rattle.bit_diagrams.specs.declared.parts.Node.{Node}
 use Rattle.bit_diagrams.specs.declared.waiting.Choice.{Choice}
 use Rattle.bit_diagrams.specs.Store.{Store, ids, IsIdOf}
 use Rattle.bit_diagrams.specs.Meaning.{holds, Stands, Keeps}
-use Rattle.bit_diagrams.specs.Choice.{Grows, IsBranch, IsChoiceOf, IsAnswer}
+use Rattle.bit_diagrams.specs.Choice.{Grows, IsBranch, IsChoiceOf, IsAnswer, choice_holds}
 use Rattle.bit_diagrams.proofs.HoldsLemmas.{holds_on-false, holds_on-true}
 use Rattle.bit_diagrams.proofs.StepLemmas.{choice_holds-grows}
 
@@ -33,11 +33,10 @@ bit_stands s place id h = record {
   }
 
 -- the answer of a choice is the choice, as the old store tells it
-pub choice_stands : (old new : Store) (test high low id : ℕ) → Grows old new → IsChoiceOf old (record { test = test; high = high; low = low }) → IsAnswer new (record { test = test; high = high; low = low }) id
-    → Stands new id (λ bits. if holds old test bits then holds old high bits else holds old low bits)
-choice_stands old new test high low id g of h = record {
+pub choice_stands : (old new : Store) (c : Choice) (id : ℕ) → Grows old new → IsChoiceOf old c → IsAnswer new c id → Stands new id (choice_holds old c)
+choice_stands old new c id g of h = record {
     of_store = h.of_store;
-    exact = λ bits full. h.exact bits ∙ choice_holds-grows old new (record { test = test; high = high; low = low }) bits g of;
+    exact = λ bits full. h.exact bits ∙ choice_holds-grows old new c bits g of;
   }
 
 -- a choice with a constant is an and, an or, or a not

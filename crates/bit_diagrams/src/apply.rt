@@ -148,6 +148,6 @@ impl Diagrams {
         if node.place != place {
             return id;
         }
-        if value { node.high } else { node.low }
+        node.way(value)
     }
 }

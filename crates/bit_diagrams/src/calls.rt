@@ -2,6 +2,7 @@
 ghost use Rattle.std.specs.Prelude.{◌≡◌, ◌<◌, ◌&&◌, ◌||◌, not, false, if◌then◌else◌, length, List, Bool, slice_index_or, IfOk, OnErr};
 ghost use Rattle.bit_diagrams.specs.Store.{IsIdOf};
 ghost use Rattle.bit_diagrams.specs.Meaning.{holds, Stands, Keeps};
+ghost use Rattle.bit_diagrams.specs.Choice.{IsChoiceOf, choice_holds};
 
 use crate::parts::{FALSE, Id, Memory, Node, TRUE};
 use crate::store::Diagrams;
@@ -68,11 +69,20 @@ impl Diagrams {
         ensures keeps { Keeps self.old self.new }
         ensures err { OnErr result (self.new ≡ self.old) }
     {
-        let choice = Choice {
+        self.make(Choice {
             test,
             high: yes,
             low: no,
-        };
+        })
+    }
+
+    // The Id of a choice. After `Memory` the nodes that were made on the way are taken away again.
+    fn make(&mut self, choice: Choice) -> Result<Id, Memory>
+        requires { IsChoiceOf self.old choice }
+        ensures made { IfOk result (λ id. Stands self.new id (choice_holds self.old choice)) }
+        ensures keeps { Keeps self.old self.new }
+        ensures err { OnErr result (self.new ≡ self.old) }
+    {
         if let Some(id) = self.simple(&choice) {
             return Ok(id);
         }

@@ -1,5 +1,5 @@
 // What the store is made of: the want of memory, Ids and nodes.
-ghost use Rattle.std.specs.Prelude.{◌≡◌, ◌==◌, ◌<◌, ℕ, not, length, slice_set};
+ghost use Rattle.std.specs.Prelude.{◌≡◌, ◌==◌, ◌<◌, ℕ, if◌then◌else◌, not, length, slice_set};
 
 use std::alloc::{AllocError, AllocFailed};
 use std::error::Error;
@@ -65,16 +65,19 @@ pub struct Node {
 impl Node {
     ghost use Rattle.bit_diagrams.specs.Meaning.{child_on};
 
+    // The child that a bit chooses.
+    pub(crate) fn way(&self, bit: bool) -> Id
+        ensures { result ≡ (if bit then self.now.high else self.now.low) }
+    {
+        if bit { self.high } else { self.low }
+    }
+
     // The child that the bit at the node's place chooses.
     pub(crate) fn child(&self, values: &[bool]) -> Id
         requires { self.now.place < length values.now }
         ensures { result ≡ child_on self.now values.now }
     {
-        if values[self.place] {
-            self.high
-        } else {
-            self.low
-        }
+        self.way(values[self.place])
     }
 
     // Writes the bit that leads to a child that is not false, to `high` where it may.

@@ -1,6 +1,5 @@
-use Rattle.std.proofs.Common.{◌≡◌, ◌<◌, ◌∙◌, None, true, false, if◌then◌else◌, sym, subst, arith}
-use Rattle.std.proofs.lemmas.Bool.Decides.{nat_tests}
-use Rattle.bit_diagrams.specs.Store.{node_at, place_of}
+use Rattle.std.proofs.Common.{◌≡◌, ◌∙◌, None, if◌then◌else◌, sym, subst, arith}
+use Rattle.bit_diagrams.specs.Store.{node_at}
 use Rattle.bit_diagrams.specs.Choice.{IsCofactor}
 use Rattle.bit_diagrams.proofs.NodeLemmas.{place_of-node}
 use Rattle.bit_diagrams.proofs.StoreLemmas.{place_of-none}
@@ -19,18 +18,11 @@ returns-then-node-place c =
     cofactor_self s c.args.id c.args.place c.args.value
       (omega (arith, place_of-node s.places s.nodes c.args.id c.in-Some.node (sym c.in-Some.ensures.node), c.requires.first, c.if-node-place.true))
 
-pub returns-then-value : goal.returns-then-value
-returns-then-value c =
+pub returns : goal.returns
+returns c =
     let s = c.args.self.now in
-    let at : c.in-Some.node.place ≡ c.args.place = omega (arith, c.if-node-place.false) in
-    subst (λ p. IsCofactor s c.args.id p c.args.value c.in-Some.node.high) at
-      (subst (λ v. IsCofactor s c.args.id c.in-Some.node.place v c.in-Some.node.high) (sym c.if-value.true)
-        (cofactor_child s c.args.id c.in-Some.node true c.in-Some.ensures.facts (sym c.in-Some.ensures.node)))
-
-pub returns-else-value : goal.returns-else-value
-returns-else-value c =
-    let s = c.args.self.now in
-    let at : c.in-Some.node.place ≡ c.args.place = omega (arith, c.if-node-place.false) in
-    subst (λ p. IsCofactor s c.args.id p c.args.value c.in-Some.node.low) at
-      (subst (λ v. IsCofactor s c.args.id c.in-Some.node.place v c.in-Some.node.low) (sym c.if-value.false)
-        (cofactor_child s c.args.id c.in-Some.node false c.in-Some.ensures.facts (sym c.in-Some.ensures.node)))
+    let n = c.in-Some.node in
+    let at : n.place ≡ c.args.place = omega (arith, c.if-node-place.false) in
+    subst (λ i. IsCofactor s c.args.id c.args.place c.args.value i) (sym c.way.ensures)
+      (subst (λ p. IsCofactor s c.args.id p c.args.value (if c.args.value then n.high else n.low)) at
+        (cofactor_child s c.args.id n c.args.value c.in-Some.ensures.facts (sym c.in-Some.ensures.node)))
