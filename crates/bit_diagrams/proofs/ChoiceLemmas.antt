@@ -1,14 +1,12 @@
 -- Answers that show at once, halves of a choice, and the node that a choice comes to.
-use Rattle.std.proofs.Common.{◌≡◌, ◌≢◌, ℕ, zero, suc, ◌+◌, ◌-◌, ◌<◌, ◌≤◌, min, Bool, true, false, List, length, Option, Some, None, if◌then◌else◌, refl, sym, ap, subst, ◌∙◌, inl, inr, arith, slice_index_or}
-use Rattle.std.proofs.lemmas.Bool.{cases_Bool}
+use Rattle.std.proofs.Common.{◌≡◌, ℕ, ◌<◌, ◌≤◌, Bool, true, false, List, Some, if◌then◌else◌, refl, sym, ap, ◌∙◌, arith, slice_index_or}
 use Rattle.bit_diagrams.specs.declared.parts.Node.{Node}
 use Rattle.bit_diagrams.specs.declared.waiting.Choice.{Choice}
-use Rattle.bit_diagrams.specs.Store.{Store, ids, IsIdOf, IsStore, AreNodes, node_at, place_of}
-use Rattle.bit_diagrams.specs.Meaning.{holds, holds_on, child_on}
+use Rattle.bit_diagrams.specs.Store.{Store, IsIdOf, IsStore, node_at, place_of}
+use Rattle.bit_diagrams.specs.Meaning.{holds}
 use Rattle.bit_diagrams.specs.Choice.{IsChoiceOf, IsAnswer, IsCofactor, IsHalf, IsDeeper, IsNodeFor, choice_place, choice_holds}
 use Rattle.bit_diagrams.proofs.NodeLemmas.{node_facts, node_at-there, place_of-node}
 use Rattle.bit_diagrams.proofs.HoldsLemmas.{holds_on-node, holds_on-false, holds_on-true}
-use Rattle.bit_diagrams.proofs.StoreLemmas.{place_of-none}
 
 -- a choice looks at no place after its parts' places
 pub place-le_test : (s : Store) (c : Choice) → choice_place s c ≤ place_of s.places s.nodes c.test
@@ -26,53 +24,53 @@ place-le_low s c = omega arith
 -- the test is false
 pub answer_low : (s : Store) (c : Choice) → IsChoiceOf s c → c.test ≡ 0 → IsAnswer s c c.low
 answer_low s c of is = record {
-    of_store = of.of_low;
-    rises = place-le_low s c;
-    exact = λ bits.
+  of_store = of.of_low;
+  rises = place-le_low s c;
+  exact = λ bits.
       let test : holds s c.test bits ≡ false = ap (λ i. holds s i bits) is ∙ holds_on-false s.nodes bits in
       sym (ap (λ b. if b then holds s c.high bits else holds s c.low bits) test);
-  }
+}
 
 -- the test is true
 pub answer_high : (s : Store) (c : Choice) → IsChoiceOf s c → c.test ≡ 1 → IsAnswer s c c.high
 answer_high s c of is = record {
-    of_store = of.of_high;
-    rises = place-le_high s c;
-    exact = λ bits.
+  of_store = of.of_high;
+  rises = place-le_high s c;
+  exact = λ bits.
       let test : holds s c.test bits ≡ true = ap (λ i. holds s i bits) is ∙ holds_on-true s.nodes bits in
       sym (ap (λ b. if b then holds s c.high bits else holds s c.low bits) test);
-  }
+}
 
 -- both are one
 pub answer_same : (s : Store) (c : Choice) → IsChoiceOf s c → c.high ≡ c.low → IsAnswer s c c.high
 answer_same s c of is = record {
-    of_store = of.of_high;
-    rises = place-le_high s c;
-    exact = λ bits.
+  of_store = of.of_high;
+  rises = place-le_high s c;
+  exact = λ bits.
       elim (holds s c.test bits) as (λ b. holds s c.high bits ≡ (if b then holds s c.high bits else holds s c.low bits)) [
-        true ↦ refl
-      | false ↦ ap (λ i. holds s i bits) is
+        | true ↦ refl
+        | false ↦ ap (λ i. holds s i bits) is
       ];
-  }
+}
 
 -- the choice between true and false
 pub answer_test : (s : Store) (c : Choice) → IsChoiceOf s c → c.high ≡ 1 → c.low ≡ 0 → IsAnswer s c c.test
 answer_test s c of is_high is_low = record {
-    of_store = of.of_test;
-    rises = place-le_test s c;
-    exact = λ bits.
+  of_store = of.of_test;
+  rises = place-le_test s c;
+  exact = λ bits.
       let high : holds s c.high bits ≡ true = ap (λ i. holds s i bits) is_high ∙ holds_on-true s.nodes bits in
       let low : holds s c.low bits ≡ false = ap (λ i. holds s i bits) is_low ∙ holds_on-false s.nodes bits in
       elim (holds s c.test bits) as (λ b. b ≡ (if b then holds s c.high bits else holds s c.low bits)) [ true ↦ sym high | false ↦ sym low ];
-  }
+}
 
 -- an Id of a later place is its own cofactor
 pub cofactor_self : (s : Store) (id place : ℕ) (v : Bool) → place < place_of s.places s.nodes id → IsCofactor s id place v id
 cofactor_self s id place v later = record {
-    smaller = omega arith;
-    later = later;
-    exact = λ bits e. refl;
-  }
+  smaller = omega arith;
+  later = later;
+  exact = λ bits e. refl;
+}
 
 -- a node of the place has its child as cofactor
 pub cofactor_child : (s : Store) (id : ℕ) (n : Node) (v : Bool) → IsStore s → node_at s.nodes id ≡ Some n → IsCofactor s id n.place v (if v then n.high else n.low)
@@ -95,11 +93,11 @@ choice_within s c are of tests =
 pub deeper_half : (s : Store) (c : Choice) (place : ℕ) (v : Bool) (half : Choice) → place ≡ choice_place s c → IsHalf s c place v half → IsDeeper s c half
 unfolding choice_place
 deeper_half s c place v half at h = record {
-    test = h.test.smaller;
-    high = h.high.smaller;
-    low = h.low.smaller;
-    later = omega (arith, at, h.test.later, h.high.later, h.low.later);
-  }
+  test = h.test.smaller;
+  high = h.high.smaller;
+  low = h.low.smaller;
+  later = omega (arith, at, h.test.later, h.high.later, h.low.later);
+}
 
 -- a half holds as the choice does where its bit is so
 half_holds : (s : Store) (c : Choice) (place : ℕ) (v : Bool) (half : Choice) (bits : List Bool) → IsHalf s c place v half → slice_index_or bits place false ≡ v
@@ -123,10 +121,10 @@ node_for s c low_half high_half place low high at l h answer_l answer_h =
       low_rises = omega (arith, at, down_l.later, answer_l.rises);
       high_rises = omega (arith, at, down_h.later, answer_h.rises);
       exact = λ bits.
-        let by : (b : Bool) → slice_index_or bits place false ≡ b → (if b then holds s high bits else holds s low bits) ≡ choice_holds s c bits =
-              λ b. elim b as (λ v. slice_index_or bits place false ≡ v → (if v then holds s high bits else holds s low bits) ≡ choice_holds s c bits) [
-                true ↦ λ e. answer_h.exact bits ∙ half_holds s c place true high_half bits h e
-              | false ↦ λ e. answer_l.exact bits ∙ half_holds s c place false low_half bits l e
-              ] in
-        by (slice_index_or bits place false) refl;
+          let by : (b : Bool) → slice_index_or bits place false ≡ b → (if b then holds s high bits else holds s low bits) ≡ choice_holds s c bits =
+          λ b. elim b as (λ v. slice_index_or bits place false ≡ v → (if v then holds s high bits else holds s low bits) ≡ choice_holds s c bits) [
+            | true ↦ λ e. answer_h.exact bits ∙ half_holds s c place true high_half bits h e
+            | false ↦ λ e. answer_l.exact bits ∙ half_holds s c place false low_half bits l e
+          ] in
+          by (slice_index_or bits place false) refl;
     }

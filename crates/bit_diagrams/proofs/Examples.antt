@@ -1,7 +1,7 @@
 -- Worked examples, which the checker computes: a store of two places with the nodes of bit 1 and of both bits.
-use Rattle.std.proofs.Common.{◌≡◌, ℕ, Bool, true, false, List, [], ◌∷◌, Option, Some, None, refl}
+use Rattle.std.proofs.Common.{◌≡◌, true, false, List, [], ◌∷◌, Some, None, refl}
 use Rattle.bit_diagrams.specs.declared.parts.Node.{Node}
-use Rattle.bit_diagrams.specs.Store.{ids, node_at, place_of}
+use Rattle.bit_diagrams.specs.Store.{node_at, place_of}
 use Rattle.bit_diagrams.specs.Meaning.{holds_on}
 
 bit_one : Node

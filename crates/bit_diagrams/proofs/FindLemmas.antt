@@ -1,9 +1,9 @@
 -- The way down from an Id to true, and the bits that it writes.
-use Rattle.std.proofs.Common.{◌≡◌, ◌≢◌, ℕ, zero, suc, ◌+◌, ◌<◌, ◌≤◌, Bool, true, false, not, List, length, Option, Some, None, if◌then◌else◌, ◌==◌, refl, sym, ap, subst, ◌∙◌, inl, inr, arith, slice_index_or, set, get_or-set_other, get_or-set_same, length-set, eq-eqb, ne_eqb}
+use Rattle.std.proofs.Common.{◌≡◌, ◌≢◌, ℕ, zero, suc, ◌<◌, Bool, true, false, not, List, length, Some, None, if◌then◌else◌, ◌==◌, refl, sym, ap, ◌∙◌, inl, inr, arith, slice_index_or, set, get_or-set_other, get_or-set_same, eq-eqb, ne_eqb}
 use Rattle.std.proofs.lemmas.Bool.{cases_eq}
 use Rattle.bit_diagrams.specs.declared.parts.Node.{Node}
 use Rattle.bit_diagrams.specs.Store.{Store, ids, IsIdOf, IsStore, node_at, place_of}
-use Rattle.bit_diagrams.specs.Meaning.{holds, holds_on, child_on}
+use Rattle.bit_diagrams.specs.Meaning.{holds, child_on}
 use Rattle.bit_diagrams.proofs.NodeLemmas.{IsNodeOf, node_facts, node_at-there, place_of-node}
 use Rattle.bit_diagrams.proofs.HoldsLemmas.{at_child, holds_on-node, holds_on-true}
 
@@ -24,14 +24,14 @@ way_starts s id values of alive = record { of_store = of; alive = alive; way = �
 child_alive : (n : Node) (bits : List Bool) → n.low ≢ n.high → slice_index_or bits n.place false ≡ not (n.high == 0) → child_on n bits ≢ 0
 child_alive n bits differ bit =
     elim (cases_eq n.high 0) [
-      inl e ↦ λ z.
-        let off : slice_index_or bits n.place false ≡ false = bit ∙ ap (λ b. not b) (eq-eqb n.high 0 e) in
-        let low : child_on n bits ≡ n.low = ap (λ b. if b then n.high else n.low) off in
-        differ (sym low ∙ z ∙ sym e)
-    | inr e ↦ λ z.
-        let on : slice_index_or bits n.place false ≡ true = bit ∙ ap (λ b. not b) (ne_eqb n.high 0 e) in
-        let high : child_on n bits ≡ n.high = ap (λ b. if b then n.high else n.low) on in
-        e (sym high ∙ z)
+      | inl e ↦ λ z.
+          let off : slice_index_or bits n.place false ≡ false = bit ∙ ap (λ b. not b) (eq-eqb n.high 0 e) in
+          let low : child_on n bits ≡ n.low = ap (λ b. if b then n.high else n.low) off in
+          differ (sym low ∙ z ∙ sym e)
+      | inr e ↦ λ z.
+          let on : slice_index_or bits n.place false ≡ true = bit ∙ ap (λ b. not b) (ne_eqb n.high 0 e) in
+          let high : child_on n bits ≡ n.high = ap (λ b. if b then n.high else n.low) on in
+          e (sym high ∙ z)
     ]
 
 child_rises : (s : Store) (at : ℕ) (n : Node) (bits : List Bool) → IsNodeOf s.places s.nodes at n → n.place < place_of s.places s.nodes (child_on n bits)
@@ -55,11 +55,11 @@ way_steps s id at n values are is full h =
       of_store = omega (arith, child_less s at n next are is, f.below);
       alive = child_alive n next f.differ bit;
       way = λ bits agree.
-        let before : AgreeBefore (place_of s.places s.nodes at) bits values =
-              λ k lt. agree k (omega (arith, lt, rises, place_of-node s.places s.nodes at n is))
-                ∙ get_or-set_other values n.place k v false (λ e. omega (arith, e, lt, place_of-node s.places s.nodes at n is)) in
-        let same : slice_index_or bits n.place false ≡ slice_index_or next n.place false = agree n.place rises in
-        h.way bits before
+          let before : AgreeBefore (place_of s.places s.nodes at) bits values =
+          λ k lt. agree k (omega (arith, lt, rises, place_of-node s.places s.nodes at n is))
+          ∙ get_or-set_other values n.place k v false (λ e. omega (arith, e, lt, place_of-node s.places s.nodes at n is)) in
+          let same : slice_index_or bits n.place false ≡ slice_index_or next n.place false = agree n.place rises in
+          h.way bits before
           ∙ holds_on-node s.places s.nodes at n bits are is
           ∙ ap (λ b. holds s (if b then n.high else n.low) bits) same;
     }

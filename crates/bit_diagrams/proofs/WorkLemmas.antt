@@ -1,14 +1,9 @@
 -- What the loop that works out a choice keeps, and why it ends.
-use Rattle.std.proofs.Common.{◌≡◌, ◌≢◌, ℕ, zero, suc, ◌+◌, ◌-◌, ◌*◌, ◌<◌, ◌≤◌, min, Bool, true, false, ◌&&◌, List, [], ◌∷◌, ◌++◌, length, Option, Some, None, is_some, if◌then◌else◌, ◌==◌, refl, sym, ap, subst, ◌∙◌, inl, inr, arith, slice_index_or, eq-eqb, eqb-true, mul-le-mul_right}
-use Rattle.std.proofs.lemmas.Bool.{cases_Bool, cases_eq, and_parts, true≢false}
-use Rattle.bit_diagrams.specs.declared.parts.Node.{Node}
+use Rattle.std.proofs.Common.{◌≡◌, ℕ, zero, suc, ◌+◌, ◌-◌, ◌*◌, ◌<◌, ◌≤◌, true, false, ◌&&◌, List, [], ◌∷◌, Option, Some, None, is_some, if◌then◌else◌, ◌==◌, refl, ap, subst, ◌∙◌, inl, inr, arith, eq-eqb, eqb-true, mul-le-mul_right}
+use Rattle.std.proofs.lemmas.Bool.{cases_Bool, cases_eq, and_parts}
 use Rattle.bit_diagrams.specs.declared.waiting.Choice.{Choice}
-use Rattle.bit_diagrams.specs.Store.{Store, ids, IsIdOf, IsStore, place_of}
-use Rattle.bit_diagrams.specs.Meaning.{holds, Keeps}
-use Rattle.bit_diagrams.specs.Choice.{Grows, IsBranch, IsChoiceOf, IsAnswer, IsSound, IsOpen, IsDeeper, IsNodeFor, choice_place, choice_holds, same_choice}
-use Rattle.bit_diagrams.proofs.NodeLemmas.{place_of-append}
-use Rattle.bit_diagrams.proofs.StoreLemmas.{keeps_grows}
-use Rattle.bit_diagrams.proofs.ChoiceLemmas.{choice_within}
+use Rattle.bit_diagrams.specs.Store.{Store, ids}
+use Rattle.bit_diagrams.specs.Choice.{Grows, IsSound, IsOpen, choice_place, same_choice}
 
 -- the choice that the work began with: the oldest of those that wait
 abbrev pub root_of : Choice → List Choice → Choice
@@ -43,12 +38,12 @@ unfolding sum_below
 sum_below-lt f g zero j le below lt = absurd (omega arith)
 sum_below-lt f g (suc n) j le below lt =
     elim (cases_eq j n) [
-      inl e ↦
-        let here : g n < f n = subst (λ i. g i < f i) e lt in
-        omega (arith, here, sum_below-le f g n le)
-    | inr e ↦
-        let rest : sum_below g n < sum_below f n = sum_below-lt f g n j le (omega arith) lt in
-        omega (arith, le n, rest)
+      | inl e ↦
+          let here : g n < f n = subst (λ i. g i < f i) e lt in
+          omega (arith, here, sum_below-le f g n le)
+      | inr e ↦
+          let rest : sum_below g n < sum_below f n = sum_below-lt f g n j le (omega arith) lt in
+          omega (arith, le n, rest)
     ]
 
 -- 1 where a choice has no answer yet
@@ -90,10 +85,10 @@ unanswered-le : (answer after : Choice → Option ℕ) (c q : Choice) (id : ℕ)
 unfolding unanswered
 unanswered-le answer after c q id h =
     elim (cases_Bool (same_choice c q)) [
-      inl e ↦
-        let now : after q ≡ Some id = h q ∙ ap (λ b. if b then Some id else answer q) e in
-        rw now (omega arith)
-    | inr e ↦ rw (answered_other answer after c q id h e) (omega arith)
+      | inl e ↦
+          let now : after q ≡ Some id = h q ∙ ap (λ b. if b then Some id else answer q) e in
+          rw now (omega arith)
+      | inr e ↦ rw (answered_other answer after c q id h e) (omega arith)
     ]
 
 unanswered-lt : (answer after : Choice → Option ℕ) (c : Choice) (id : ℕ) → Answered answer after c id → answer c ≡ None → unanswered after c < unanswered answer c
@@ -105,15 +100,15 @@ open_count-lt : (answer after : Choice → Option ℕ) (c : Choice) (id n : ℕ)
 unfolding open_count
 open_count-lt answer after c id n h none t_below h_below l_below =
     sum_below-lt _ _ n c.test
-      (λ t. sum_below-le _ _ n (λ k. sum_below-le _ _ n (λ l. unanswered-le answer after c (record { test = t; high = k; low = l }) id h)))
-      t_below
-      (sum_below-lt _ _ n c.high
-        (λ k. sum_below-le _ _ n (λ l. unanswered-le answer after c (record { test = c.test; high = k; low = l }) id h))
-        h_below
-        (sum_below-lt _ _ n c.low
-          (λ l. unanswered-le answer after c (record { test = c.test; high = c.high; low = l }) id h)
-          l_below
-          (unanswered-lt answer after c id h none)))
+    (λ t. sum_below-le _ _ n (λ k. sum_below-le _ _ n (λ l. unanswered-le answer after c (record { test = t; high = k; low = l }) id h)))
+    t_below
+    (sum_below-lt _ _ n c.high
+    (λ k. sum_below-le _ _ n (λ l. unanswered-le answer after c (record { test = c.test; high = k; low = l }) id h))
+    h_below
+    (sum_below-lt _ _ n c.low
+    (λ l. unanswered-le answer after c (record { test = c.test; high = c.high; low = l }) id h)
+    l_below
+    (unanswered-lt answer after c id h none)))
 
 -- an answer kept leaves less to do, wherever the work goes on
 pub join_less : (first : Store) (answer after : Choice → Option ℕ) (c next : Choice) (id : ℕ) → Answered answer after c id → IsOpen first answer c
@@ -121,9 +116,9 @@ pub join_less : (first : Store) (answer after : Choice → Option ℕ) (c next :
 unfolding work_left
 join_less first answer after c next id h here =
     let fewer : open_count after (ids first.nodes) + 1 ≤ open_count answer (ids first.nodes) =
-          omega (arith, open_count-lt answer after c id (ids first.nodes) h here.unknown here.of_store.of_test here.of_store.of_high here.of_store.of_low) in
+    omega (arith, open_count-lt answer after c id (ids first.nodes) h here.unknown here.of_store.of_test here.of_store.of_high here.of_store.of_low) in
     let scaled : (open_count after (ids first.nodes) + 1) * (first.places + 1) ≤ open_count answer (ids first.nodes) * (first.places + 1) =
-          mul-le-mul_right (first.places + 1) fewer in
+    mul-le-mul_right (first.places + 1) fewer in
     grind (arith, scaled)
 
 -- and so does a step down

@@ -1,5 +1,5 @@
 -- What is asked of the store while it makes a choice: choices of Ids, their answers, and the work that waits.
-use Rattle.std.specs.Prelude.{◌≡◌, ℕ, ◌+◌, ◌<◌, ◌≤◌, min, Bool, false, ◌&&◌, List, [], ◌∷◌, ◌++◌, Option, Some, None, if◌then◌else◌, ◌==◌, slice_index_or}
+use Rattle.std.specs.Prelude.{◌≡◌, ℕ, ◌<◌, ◌≤◌, min, Bool, false, ◌&&◌, List, ◌++◌, Option, Some, None, if◌then◌else◌, ◌==◌, slice_index_or}
 use Rattle.std.specs.HashMap.{HashMap, get}
 use Rattle.std.specs.declared.hash.FoldHasher.{FoldHasher}
 use Rattle.std.specs.declared.hash.BuildHasherDefault.{BuildHasherDefault}
@@ -7,7 +7,7 @@ use Rattle.bit_diagrams.specs.declared.parts.Node.{Node}
 use Rattle.bit_diagrams.specs.declared.waiting.Choice.{Choice}
 use Rattle.bit_diagrams.specs.declared.apply.Step.{Step}
 use Rattle.bit_diagrams.specs.declared.apply.Step.TheVariants.{Descend, Join}
-use Rattle.bit_diagrams.specs.Store.{Store, ids, IsIdOf, place_of}
+use Rattle.bit_diagrams.specs.Store.{Store, IsIdOf, place_of}
 use Rattle.bit_diagrams.specs.Meaning.{holds}
 
 -- the new store has the nodes of the old one, and maybe newer ones

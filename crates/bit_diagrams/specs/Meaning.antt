@@ -1,5 +1,5 @@
 -- What an Id stands for: the lists of bits, one bit a place, on which it holds.
-use Rattle.std.specs.Prelude.{◌≡◌, ◌≢◌, ℕ, ◌<◌, Bool, true, false, List, [], ◌∷◌, length, Option, Some, None, if◌then◌else◌, ◌==◌, slice_index_or}
+use Rattle.std.specs.Prelude.{◌≡◌, ◌≢◌, ℕ, Bool, true, false, List, [], ◌∷◌, length, Option, Some, None, if◌then◌else◌, ◌==◌, slice_index_or}
 use Rattle.bit_diagrams.specs.declared.parts.Node.{Node}
 use Rattle.bit_diagrams.specs.Store.{Store, ids, constant_id, IsIdOf}
 

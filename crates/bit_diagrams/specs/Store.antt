@@ -1,5 +1,5 @@
 -- What a store of decision diagrams is: its places, its nodes, and the facts that its nodes keep.
-use Rattle.std.specs.Prelude.{◌≡◌, ◌≢◌, ℕ, ◌+◌, ◌<◌, Bool, List, [], ◌∷◌, length, Option, Some, None, option_map, unwrap_or, if◌then◌else◌, ◌==◌, Contains}
+use Rattle.std.specs.Prelude.{◌≢◌, ℕ, ◌+◌, ◌<◌, Bool, List, [], ◌∷◌, length, Option, Some, None, option_map, unwrap_or, if◌then◌else◌, ◌==◌}
 use Rattle.bit_diagrams.specs.declared.parts.Node.{Node}
 
 -- a store: the number of places, and the nodes, the newest first

@@ -86,7 +86,7 @@ impl Diagrams {
         if let Some(id) = self.simple(&choice) {
             return Ok(id);
         }
-        let count = self.len();
+        let count = self.node_count();
         match self.settle(choice) {
             Ok(id) => Ok(id),
             Err(Memory) => {
@@ -103,6 +103,6 @@ impl Diagrams {
         requires same { (bits : List Bool) → length bits ≡ self.now.places → holds self.now a bits ≡ holds self.now b bits }
         ensures { a ≡ b }
     {
-        let _ = self.len();
+        let _ = self.node_count();
     }
 }

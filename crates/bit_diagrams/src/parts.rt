@@ -1,5 +1,5 @@
 // What the store is made of: the want of memory, Ids and nodes.
-ghost use Rattle.std.specs.Prelude.{◌≡◌, ◌==◌, ◌<◌, ℕ, if◌then◌else◌, not, length, slice_set};
+ghost use Rattle.std.specs.Prelude.{◌≡◌, ◌==◌, ◌<◌, ℕ, Some, codes, if◌then◌else◌, not, length, slice_set};
 
 use std::alloc::{AllocError, AllocFailed};
 use std::error::Error;
@@ -11,6 +11,8 @@ use std::marker::Model;
 pub struct Memory;
 
 impl fmt::Display for Memory {
+    ghost output = { λ _. Some (codes "out of memory") };
+
     fn fmt<W: fmt::Write>(&self, f: &mut fmt::Formatter<W>) -> fmt::Result {
         write!(f, "out of memory")
     }

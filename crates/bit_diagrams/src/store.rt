@@ -52,8 +52,8 @@ impl Diagrams {
     }
 
     /// The number of nodes of the store.
-    pub fn len(&self) -> usize
-        ensures len { result ≡ length self.now.nodes }
+    pub fn node_count(&self) -> usize
+        ensures count { result ≡ length self.now.nodes }
         ensures small { length self.now.nodes < 2 ^ 63 }
         ensures facts { IsStore self.now }
     {
@@ -125,6 +125,7 @@ impl Diagrams {
         if node.low == node.high {
             return Ok(node.low);
         }
+        // A set has fewer than 2^63 values, so the Id fits.
         let _count = self.nodes.len();
         let (index, _) = self.nodes.insert_full(node)?;
         Ok(Id(index + 2))

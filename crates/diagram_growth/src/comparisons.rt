@@ -45,7 +45,7 @@ fn comparison(store: &mut Diagrams, left: usize, right: usize) -> Result<Id, Mem
 pub fn count_nodes(alloc: Global, store: &Diagrams, id: Id) -> Result<usize, Memory> {
     let mut seen = IndexSet::new(alloc);
     see(store, &mut seen, id)?;
-    for index in 0..store.len() {
+    for index in 0..store.node_count() {
         let Some(next) = seen.get_index(index).copied() else {
             break;
         };

@@ -12,8 +12,13 @@ use std::rt::Env;
 // The number of comparisons: the program's argument.
 fn read_count<R: Env + Alloc>(rt: &R) -> Result<u32> {
     let mut words = env::args(rt)?;
-    let word = words.nth(1).context("the number of comparisons is missing")?;
-    let count = word.as_str().parse::<u32>().context("the number of comparisons is no number")?;
+    let word = words
+        .nth(1)
+        .context("the number of comparisons is missing")?;
+    let count = word
+        .as_str()
+        .parse::<u32>()
+        .context("the number of comparisons is no number")?;
     Ok(count)
 }
 

@@ -1,4 +1,3 @@
-use Rattle.std.proofs.Common.{arith}
 use Rattle.bit_diagrams.specs.Choice.{choice_place}
 use Rattle.bit_diagrams.proofs.store.Diagrams.choice_place.Goals as goal
 

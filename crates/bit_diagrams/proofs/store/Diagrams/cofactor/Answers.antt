@@ -16,7 +16,7 @@ pub returns-then-node-place : goal.returns-then-node-place
 returns-then-node-place c =
     let s = c.args.self.now in
     cofactor_self s c.args.id c.args.place c.args.value
-      (omega (arith, place_of-node s.places s.nodes c.args.id c.in-Some.node (sym c.in-Some.ensures.node), c.requires.first, c.if-node-place.true))
+    (omega (arith, place_of-node s.places s.nodes c.args.id c.in-Some.node (sym c.in-Some.ensures.node), c.requires.first, c.if-node-place.true))
 
 pub returns : goal.returns
 returns c =
@@ -24,5 +24,5 @@ returns c =
     let n = c.in-Some.node in
     let at : n.place ≡ c.args.place = omega (arith, c.if-node-place.false) in
     subst (λ i. IsCofactor s c.args.id c.args.place c.args.value i) (sym c.way.ensures)
-      (subst (λ p. IsCofactor s c.args.id p c.args.value (if c.args.value then n.high else n.low)) at
-        (cofactor_child s c.args.id n c.args.value c.in-Some.ensures.facts (sym c.in-Some.ensures.node)))
+    (subst (λ p. IsCofactor s c.args.id p c.args.value (if c.args.value then n.high else n.low)) at
+    (cofactor_child s c.args.id n c.args.value c.in-Some.ensures.facts (sym c.in-Some.ensures.node)))

@@ -1,4 +1,3 @@
-use Rattle.std.proofs.Common.{subst, sym, reverse}
 use Rattle.bit_diagrams.specs.Store.{AreNodes}
 use Rattle.bit_diagrams.proofs.store.Diagrams.new.Goals as goal
 

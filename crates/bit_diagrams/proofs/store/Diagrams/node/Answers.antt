@@ -13,8 +13,8 @@ returns-then-id-lt2-clause-facts c = subst (λ s. IsStore s) c.self.view_is c.se
 pub returns-clause-node : goal.returns-clause-node
 returns-clause-node c =
     c.copied.ensures ∙ c.get_index.ensures.key
-      ∙ sym (node_at-reverse c.self.inside.nodes.keys (c.id.inside.0 - 2) c.args.id (omega arith))
-      ∙ ap (λ s. node_at s.nodes c.args.id) c.self.view_is
+    ∙ sym (node_at-reverse c.self.inside.nodes.keys (c.id.inside.0 - 2) c.args.id (omega arith))
+    ∙ ap (λ s. node_at s.nodes c.args.id) c.self.view_is
 
 pub returns-clause-facts : goal.returns-clause-facts
 returns-clause-facts c = subst (λ s. IsStore s) c.self.view_is c.self.invariant

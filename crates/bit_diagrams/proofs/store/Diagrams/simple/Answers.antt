@@ -12,12 +12,12 @@ returns-then-eq c =
 pub returns-then-eq-2 : goal.returns-then-eq-2
 returns-then-eq-2 c =
     elim c.then-eq-2.branch [
-      then-eq-2-via-then-eq-2 w ↦
-        let is : c.args.choice.now.test ≡ 1 = grind (arith, nat_tests) in
-        answer_high c.args.self.now c.args.choice.now c.requires is
-    | then-eq-2-via-else-eq-2+then-eq-3 w ↦
-        let is : c.args.choice.now.high ≡ c.args.choice.now.low = grind (arith, nat_tests) in
-        answer_same c.args.self.now c.args.choice.now c.requires is
+      | then-eq-2-via-then-eq-2 w ↦
+          let is : c.args.choice.now.test ≡ 1 = grind (arith, nat_tests) in
+          answer_high c.args.self.now c.args.choice.now c.requires is
+      | then-eq-2-via-else-eq-2+then-eq-3 w ↦
+          let is : c.args.choice.now.high ≡ c.args.choice.now.low = grind (arith, nat_tests) in
+          answer_same c.args.self.now c.args.choice.now c.requires is
     ]
 
 pub returns-then-eq-5 : goal.returns-then-eq-5
