@@ -1,4 +1,5 @@
--- Worked examples, which the checker computes: a store of two places with the nodes of bit 1 and of both bits.
+-- Worked examples, which the checker computes: a store of two places with the nodes of bit 1 and of
+-- both bits.
 use Rattle.std.proofs.Common.{◌≡◌, true, false, List, [], ◌∷◌, Some, None, refl}
 use Rattle.bit_diagrams.specs.declared.parts.Node.{Node}
 use Rattle.bit_diagrams.specs.Store.{node_at, place_of}

@@ -1,4 +1,4 @@
--- What is asked of the store while it makes a choice: choices of Ids, their answers, and the work that waits.
+-- What a store works out: choices of Ids, their answers, and the steps between.
 use Rattle.std.specs.Prelude.{◌≡◌, ℕ, ◌<◌, ◌≤◌, min, Bool, false, ◌&&◌, List, ◌++◌, Option, Some, None, if◌then◌else◌, ◌==◌, slice_index_or}
 use Rattle.std.specs.HashMap.{HashMap, get}
 use Rattle.std.specs.declared.hash.FoldHasher.{FoldHasher}
@@ -19,7 +19,8 @@ pub record Grows (old new : Store) : Type 0 where
 pub record IsBranch (s : Store) (n : Node) (id : ℕ) : Type 0 where
   pub of_store : IsIdOf s id
   pub rises : n.place ≤ place_of s.places s.nodes id
-  pub exact : (bits : List Bool) → holds s id bits ≡ (if slice_index_or bits n.place false then holds s n.high bits else holds s n.low bits)
+  pub exact : (bits : List Bool) → holds s id bits
+      ≡ (if slice_index_or bits n.place false then holds s n.high bits else holds s n.low bits)
 
 -- a choice of Ids of a store
 pub record IsChoiceOf (s : Store) (c : Choice) : Type 0 where
@@ -29,7 +30,8 @@ pub record IsChoiceOf (s : Store) (c : Choice) : Type 0 where
 
 -- the first place that a choice looks at
 unfoldable pub choice_place : Store → Choice → ℕ
-choice_place s c = min (place_of s.places s.nodes c.test) (min (place_of s.places s.nodes c.high) (place_of s.places s.nodes c.low))
+choice_place s c = min (place_of s.places s.nodes c.test)
+    (min (place_of s.places s.nodes c.high) (place_of s.places s.nodes c.low))
 
 -- whether a choice holds on bits: where the test does, as `high`, and else as `low`
 abbrev pub choice_holds : Store → Choice → List Bool → Bool
@@ -45,7 +47,8 @@ pub record IsAnswer (s : Store) (c : Choice) (id : ℕ) : Type 0 where
 pub record IsCofactor (s : Store) (id place : ℕ) (value : Bool) (part : ℕ) : Type 0 where
   pub smaller : part ≤ id
   pub later : place < place_of s.places s.nodes part
-  pub exact : (bits : List Bool) → slice_index_or bits place false ≡ value → holds s part bits ≡ holds s id bits
+  pub exact : (bits : List Bool) → slice_index_or bits place false ≡ value
+      → holds s part bits ≡ holds s id bits
 
 -- the choice, where the bit at the place is known
 pub record IsHalf (s : Store) (c : Choice) (place : ℕ) (value : Bool) (half : Choice) : Type 0 where
@@ -67,7 +70,8 @@ answer_in memo c = get same_choice memo c
 
 -- the answer is found for this choice, and the answers for others stay
 abbrev pub Remembers : Memo → Memo → Choice → ℕ → Type 0
-Remembers old new c id = (q : Choice) → answer_in new q ≡ (if same_choice c q then Some id else answer_in old q)
+Remembers old new c id = (q : Choice)
+    → answer_in new q ≡ (if same_choice c q then Some id else answer_in old q)
 
 -- every answer found is one, for a choice of the store
 pub record IsSound (s : Store) (answer : Choice → Option ℕ) : Type 0 where
@@ -87,14 +91,16 @@ pub record IsDeeper (s : Store) (c child : Choice) : Type 0 where
   pub low : child.low ≤ c.low
   pub later : choice_place s c < choice_place s child
 
--- the node that a choice comes to: at its first place, with the answers of its two halves as children
+-- the node that a choice comes to: at its first place, with the answers of its halves as children
 pub record IsNodeFor (s : Store) (c : Choice) (n : Node) : Type 0 where
   pub at : n.place ≡ choice_place s c
   pub of_low : IsIdOf s n.low
   pub of_high : IsIdOf s n.high
   pub low_rises : n.place < place_of s.places s.nodes n.low
   pub high_rises : n.place < place_of s.places s.nodes n.high
-  pub exact : (bits : List Bool) → (if slice_index_or bits n.place false then holds s n.high bits else holds s n.low bits) ≡ choice_holds s c bits
+  pub exact : (bits : List Bool)
+      → (if slice_index_or bits n.place false then holds s n.high bits else holds s n.low bits)
+      ≡ choice_holds s c bits
 
 -- what a step may be: down to a half that is still open, or the node
 abbrev pub IsStepFor : Store → (Choice → Option ℕ) → Choice → Step → Type 0

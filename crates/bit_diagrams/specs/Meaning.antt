@@ -7,7 +7,7 @@ use Rattle.bit_diagrams.specs.Store.{Store, ids, constant_id, IsIdOf}
 abbrev pub child_on : Node → List Bool → ℕ
 child_on n bits = if slice_index_or bits n.place false then n.high else n.low
 
--- whether an Id holds on bits: true does and false does not, and a node does where the chosen child does
+-- whether an Id holds on bits: true does, false does not, a node does where the chosen child does
 unfoldable pub holds_on : List Node → ℕ → List Bool → Bool
 holds_on [] id bits = id == 1
 holds_on (n ∷ older) id bits = holds_on older (if id == ids older then child_on n bits else id) bits
@@ -27,7 +27,8 @@ pub record Keeps (old new : Store) : Type 0 where
   pub of_store : (id : ℕ) → IsIdOf old id → IsIdOf new id
   pub exact : (id : ℕ) → IsIdOf old id → (bits : List Bool) → holds new id bits ≡ holds old id bits
 
--- what may be found for an Id: nothing exactly for that of false, and then it holds on no bits; else bits on which it holds
+-- what is found for an Id: nothing exactly for that of false, else bits on which it holds
 abbrev pub Finds : Store → ℕ → Option (List Bool) → Type 0
-Finds s id None = (id ≡ constant_id false) × ((bits : List Bool) → length bits ≡ s.places → holds s id bits ≡ false)
+Finds s id None = (id ≡ constant_id false)
+    × ((bits : List Bool) → length bits ≡ s.places → holds s id bits ≡ false)
 Finds s id (Some bits) = (id ≢ constant_id false) × (length bits ≡ s.places) × (holds s id bits ≡ true)

@@ -28,15 +28,19 @@ node_at (n ∷ older) id = if id == ids older then Some n else node_at older id
 unfoldable pub place_of : ℕ → List Node → ℕ → ℕ
 place_of places nodes id = unwrap_or (option_map (λ n. n.place) (node_at nodes id)) places
 
--- a node fits the older ones: its children stand before it, places rise from it to them, they differ,
--- and it does not stand among the older nodes
+-- a node fits the older nodes: the four facts that each node of a store keeps
 pub record FitsOn (places : ℕ) (older : List Node) (n : Node) : Type 0 where
+  -- its place is one of the store's
   pub within : n.place < places
+  -- children stand before parents
   pub low_before : n.low < ids older
   pub high_before : n.high < ids older
+  -- places rise from parent to child
   pub low_rises : n.place < place_of places older n.low
   pub high_rises : n.place < place_of places older n.high
+  -- the two children differ
   pub differ : n.low ≢ n.high
+  -- no node stands twice
   pub once : (id : ℕ) → node_at older id ≢ Some n
 
 -- the nodes of a store, the newest first: each fits those before it

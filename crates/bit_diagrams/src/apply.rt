@@ -87,7 +87,8 @@ impl Diagrams {
     fn known(&self, memo: &Memo, choice: &Choice) -> Option<Id>
         requires of_store { IsChoiceOf self.now choice.now }
         requires sound { IsSound self.now (answer_in memo.now) }
-        ensures { MatchOption result (IsOpen self.now (answer_in memo.now) choice.now) (IsAnswer self.now choice.now) }
+        ensures { MatchOption result (IsOpen self.now (answer_in memo.now) choice.now)
+            (IsAnswer self.now choice.now) }
     {
         match self.simple(choice) {
             Some(id) => Some(id),

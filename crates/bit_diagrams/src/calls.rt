@@ -13,7 +13,8 @@ impl Diagrams {
     /// After `Memory` the store is unchanged.
     pub fn bit(&mut self, place: usize) -> Result<Id, Memory>
         requires { place < self.old.places }
-        ensures made { IfOk result (λ id. Stands self.new id (λ bits. slice_index_or bits place false)) }
+        ensures made { IfOk result (λ id. Stands self.new id
+            (λ bits. slice_index_or bits place false)) }
         ensures keeps { Keeps self.old self.new }
         ensures err { OnErr result (self.new ≡ self.old) }
     {
@@ -29,7 +30,8 @@ impl Diagrams {
     pub fn both(&mut self, a: Id, b: Id) -> Result<Id, Memory>
         requires of_a { IsIdOf self.old a }
         requires of_b { IsIdOf self.old b }
-        ensures made { IfOk result (λ id. Stands self.new id (λ bits. holds self.old a bits && holds self.old b bits)) }
+        ensures made { IfOk result (λ id. Stands self.new id
+            (λ bits. holds self.old a bits && holds self.old b bits)) }
         ensures keeps { Keeps self.old self.new }
         ensures err { OnErr result (self.new ≡ self.old) }
     {
@@ -41,7 +43,8 @@ impl Diagrams {
     pub fn either(&mut self, a: Id, b: Id) -> Result<Id, Memory>
         requires of_a { IsIdOf self.old a }
         requires of_b { IsIdOf self.old b }
-        ensures made { IfOk result (λ id. Stands self.new id (λ bits. holds self.old a bits || holds self.old b bits)) }
+        ensures made { IfOk result (λ id. Stands self.new id
+            (λ bits. holds self.old a bits || holds self.old b bits)) }
         ensures keeps { Keeps self.old self.new }
         ensures err { OnErr result (self.new ≡ self.old) }
     {
@@ -52,7 +55,8 @@ impl Diagrams {
     /// store is unchanged.
     pub fn negate(&mut self, a: Id) -> Result<Id, Memory>
         requires of_a { IsIdOf self.old a }
-        ensures made { IfOk result (λ id. Stands self.new id (λ bits. not (holds self.old a bits))) }
+        ensures made { IfOk result (λ id. Stands self.new id
+            (λ bits. not (holds self.old a bits))) }
         ensures keeps { Keeps self.old self.new }
         ensures err { OnErr result (self.new ≡ self.old) }
     {
@@ -65,7 +69,8 @@ impl Diagrams {
         requires of_test { IsIdOf self.old test }
         requires of_yes { IsIdOf self.old yes }
         requires of_no { IsIdOf self.old no }
-        ensures made { IfOk result (λ id. Stands self.new id (λ bits. if holds self.old test bits then holds self.old yes bits else holds self.old no bits)) }
+        ensures made { IfOk result (λ id. Stands self.new id
+            (λ bits. if holds self.old test bits then holds self.old yes bits else holds self.old no bits)) }
         ensures keeps { Keeps self.old self.new }
         ensures err { OnErr result (self.new ≡ self.old) }
     {
@@ -100,7 +105,8 @@ impl Diagrams {
     pub fn same_sets_have_one_id(&self, a: Id, b: Id)
         requires of_a { IsIdOf self.now a }
         requires of_b { IsIdOf self.now b }
-        requires same { (bits : List Bool) → length bits ≡ self.now.places → holds self.now a bits ≡ holds self.now b bits }
+        requires same { (bits : List Bool) → length bits ≡ self.now.places
+            → holds self.now a bits ≡ holds self.now b bits }
         ensures { a ≡ b }
     {
         let _ = self.node_count();

@@ -49,7 +49,8 @@ impl Waiting {
 
     // The newest of the choices waits no more.
     pub fn pop(&mut self) -> Option<Choice>
-        ensures { MatchOption result ((self.old ≡ []) × (self.new ≡ [])) (λ choice. self.old ≡ choice ∷ self.new) }
+        ensures { MatchOption result ((self.old ≡ []) × (self.new ≡ []))
+            (λ choice. self.old ≡ choice ∷ self.new) }
     {
         self.choices.pop()
     }

@@ -4,7 +4,8 @@ use Rattle.bit_diagrams.specs.Store.{AreNodes, node_at}
 use Rattle.bit_diagrams.proofs.StoreLemmas.{IsReady, AreNodes-insert, grows_insert, branch_at, equal_nodes-true, node_at-reverse}
 use Rattle.bit_diagrams.proofs.store.Diagrams.branch.Goals as goal
 
-ready : (c : goal.In_ok-index) → IsReady c.self.inside.places (reverse c.self.inside.nodes.keys) c.args.node
+ready : (c : goal.In_ok-index)
+    → IsReady c.self.inside.places (reverse c.self.inside.nodes.keys) c.args.node
 ready c =
     subst (λ s. IsReady s.places s.nodes c.args.node) (sym c.self.view_is)
     (record {
@@ -19,7 +20,8 @@ ready c =
 kept : (c : goal.In_ok-index) → AreNodes c.self.inside.places (reverse c.insert_full.new.self.keys)
 kept c =
     subst (λ l. AreNodes c.self.inside.places (reverse l)) (sym c.in_ok-index.ensures.keys)
-    (AreNodes-insert c.self.inside.places c.self.inside.nodes.keys c.args.node c.self.invariant (ready c))
+    (AreNodes-insert c.self.inside.places c.self.inside.nodes.keys c.args.node c.self.invariant
+    (ready c))
 
 pub invariant_of-self-2 : goal.invariant_of-self-2
 invariant_of-self-2 c = kept c
@@ -37,5 +39,9 @@ returns-clause-grows c =
     let g = grows_insert c.self.inside.nodes.keys c.args.node in
     record {
       places = ap (λ s. s.places) c.self.view_is;
-      nodes = (g.0, ap (λ l. reverse l) c.in_ok-index.ensures.keys ∙ g.1 ∙ ap (λ s. g.0 ++ s.nodes) c.self.view_is);
+      nodes = (
+        g.0,
+        ap (λ l. reverse l) c.in_ok-index.ensures.keys ∙ g.1
+            ∙ ap (λ s. g.0 ++ s.nodes) c.self.view_is,
+      );
     }

@@ -10,13 +10,20 @@ pub returns-in_default : goal.returns-in_default
 returns-in_default c =
     let s = c.args.self.now in
     let none : node_at s.nodes c.args.id ≡ None = sym c.node.ensures.node ∙ c.in_default.is in
-    cofactor_self s c.args.id c.args.place c.args.value (omega (arith, place_of-none s.places s.nodes c.args.id none, c.requires.within))
+    cofactor_self s c.args.id c.args.place c.args.value
+    (omega (arith, place_of-none s.places s.nodes c.args.id none, c.requires.within))
 
 pub returns-then-node-place : goal.returns-then-node-place
 returns-then-node-place c =
     let s = c.args.self.now in
     cofactor_self s c.args.id c.args.place c.args.value
-    (omega (arith, place_of-node s.places s.nodes c.args.id c.in-Some.node (sym c.in-Some.ensures.node), c.requires.first, c.if-node-place.true))
+    (omega (
+      arith,
+      place_of-node s.places s.nodes c.args.id c.in-Some.node
+          (sym c.in-Some.ensures.node),
+      c.requires.first,
+      c.if-node-place.true,
+    ))
 
 pub returns : goal.returns
 returns c =

@@ -6,5 +6,8 @@ use Rattle.bit_diagrams.proofs.store.Diagrams.find.Goals as goal
 
 pub returns-then-eq : goal.returns-then-eq
 returns-then-eq c =
-    let is : c.args.id ≡ 0 = grind (arith, nat_tests) in
-    (is, λ bits full. ap (λ i. holds c.args.self.now i bits) is ∙ holds_on-false c.args.self.now.nodes bits)
+    let is : c.args.id ≡ 0 = grind (arith, nat_tests) in (
+      is,
+      λ bits full. ap (λ i. holds c.args.self.now i bits) is
+          ∙ holds_on-false c.args.self.now.nodes bits,
+    )

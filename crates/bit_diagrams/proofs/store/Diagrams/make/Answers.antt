@@ -4,7 +4,8 @@ use Rattle.bit_diagrams.proofs.store.Diagrams.make.Goals as goal
 
 pub returns-in-Ok-clause-made : goal.returns-in-Ok-clause-made
 returns-in-Ok-clause-made c =
-    choice_stands c.args.self.now c.settle.new.self c.args.choice c.in-Ok.id c.settle.ensures.grows c.requires c.in-Ok.ensures.answer
+    choice_stands c.args.self.now c.settle.new.self c.args.choice c.in-Ok.id c.settle.ensures.grows
+    c.requires c.in-Ok.ensures.answer
 
 pub returns-in-Ok-clause-keeps : goal.returns-in-Ok-clause-keeps
 returns-in-Ok-clause-keeps c = keeps_grows c.args.self.now c.settle.new.self c.settle.ensures.grows

@@ -12,5 +12,10 @@ invariant_of-self c =
 pub returns-clause-nodes : goal.returns-clause-nodes
 returns-clause-nodes c =
     ap (λ l. reverse l) c.truncate.ensures.keys
-    ∙ reverse-take c.args.count c.self.inside.nodes.keys (omega (arith, length-reverse c.self.inside.nodes.keys, ap (λ s. length s.nodes) c.self.view_is))
+    ∙ reverse-take c.args.count c.self.inside.nodes.keys
+    (omega (
+      arith,
+      length-reverse c.self.inside.nodes.keys,
+      ap (λ s. length s.nodes) c.self.view_is,
+    ))
     ∙ ap (λ s. drop (length s.nodes - c.args.count) s.nodes) c.self.view_is
