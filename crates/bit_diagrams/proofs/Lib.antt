@@ -1,0 +1,10 @@
+pub mod NodeLemmas
+pub mod HoldsLemmas
+pub mod SameLemmas
+pub mod StoreLemmas
+pub mod ChoiceLemmas
+pub mod WorkLemmas
+pub mod StepLemmas
+pub mod CallLemmas
+pub mod FindLemmas
+pub mod Examples
