@@ -1,17 +1,11 @@
 -- The functions that find which form a statement has. `Spelling` says what the forms are.
+pub use Rattle.route_types.specs.Names.{is_mark, is_name, first_some}
+pub use Rattle.route_types.specs.Bounds.{one_bound_in, bounds_in}
 use Rattle.std.specs.Prelude.{ℕ, ◌-◌, ◌^◌, Bool, true, false, ◌&&◌, not, nat_le, ◌==◌, List, [], ◌∷◌, Option, Some, None, codes, bytes_eq}
 use Rattle.std.specs.List.{list_any, list_all}
 use Rattle.route_types.specs.Words.{◌>>=◌, when, is_digit, number_in, prefix_in}
 use Rattle.ios_reader.specs.declared.item.IosForm.{IosForm}
 use Rattle.ios_reader.specs.declared.item.IosForm.TheVariants.{PrefixEntry, MapHeader, MatchPrefix, SetLocalPreference}
-
--- a byte that no name holds: quotes, brackets, braces, parentheses, comma, semicolon
-abbrev pub is_mark : ℕ → Bool
-is_mark c = list_any (λ m. c == m) (codes "\"'[]{}(),;")
-
--- a name is a word without marks
-abbrev pub is_name : List ℕ → Bool
-is_name word = not (list_any is_mark word)
 
 -- digits without the zeros that stand before another digit
 abbrev pub without_zeros : List ℕ → List ℕ
@@ -22,31 +16,6 @@ without_zeros (c ∷ d ∷ cs) = elim (c == 48) [ true ↦ without_zeros (d ∷ 
 -- the name that a word gives a list: a word of digits alone is read by its number
 abbrev pub list_name : List ℕ → List ℕ
 list_name word = elim (list_all is_digit word) [ true ↦ without_zeros word | false ↦ word ]
-
--- the first value that is there
-abbrev pub first_some : {A : Type 0} → Option A → Option A → Option A
-first_some (Some x) other = Some x
-first_some None other = other
-
--- the least and the most length of `ge G`, or of `le E`, behind a prefix of length n
-abbrev pub one_bound_in : ℕ → List ℕ → List ℕ → Option (ℕ × ℕ)
-one_bound_in n key word = do
-  bound ← number_in 32 word
-  first_some
-      (when (bytes_eq key (codes "ge") && nat_le n bound) (bound, 32))
-      (when (bytes_eq key (codes "le") && nat_le n bound) (n, bound))
-
--- the least and the most length that the words behind a prefix of length n give
-abbrev pub bounds_in : ℕ → List (List ℕ) → Option (ℕ × ℕ)
-bounds_in n [] = Some (n, n)
-bounds_in n (a ∷ []) = None
-bounds_in n (a ∷ b ∷ []) = one_bound_in n a b
-bounds_in n (a ∷ b ∷ c ∷ []) = None
-bounds_in n (a ∷ b ∷ c ∷ d ∷ []) = do
-  least ← number_in 32 b
-  most ← number_in 32 d
-  when (bytes_eq a (codes "ge") && bytes_eq c (codes "le") && nat_le n least && nat_le least most) (least, most)
-bounds_in n (a ∷ b ∷ c ∷ d ∷ e ∷ more) = None
 
 -- `ip prefix-list N seq S permit P [ge G] [le E]`
 unfoldable pub prefix_entry_in : List (List ℕ) → Option IosForm

@@ -1,5 +1,6 @@
 -- The tree of an IOS text: which statements are policy items, under which name they stand, and the
 -- form of each. What belongs to no policy is foreign and dropped.
+use Rattle.route_types.specs.Names.{or_else}
 use Rattle.std.specs.Prelude.{ℕ, Bool, true, false, ◌&&◌, ◌||◌, ◌==◌, List, [], ◌∷◌, Option, Some, None, codes, bytes_eq, option_map, slice_get, drop}
 use Rattle.std.specs.List.{list_any}
 use Rattle.route_types.specs.declared.statement.Statement.{Statement}
@@ -62,11 +63,6 @@ known_form CommunityList ws = None
 known_form PathList ws = None
 known_form Map ws = map_header_in ws
 known_form Line ws = first_some (match_prefix_in ws) (set_local_preference_in ws)
-
--- the value that is there, or else the other one
-abbrev pub or_else : {A : Type 0} → Option A → A → A
-or_else (Some x) other = x
-or_else None other = other
 
 -- the form of a statement of this sort; one that spells no form is an Other under its name
 unfoldable pub form_of : ItemSort → List (List ℕ) → IosForm

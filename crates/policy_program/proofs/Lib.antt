@@ -9,3 +9,4 @@ pub mod PlainTree
 pub mod PlainEntries
 pub mod Ordered
 pub mod IosMeaning
+pub mod WholeLaws

@@ -14,7 +14,7 @@ use Rattle.ios_reader.specs.Meaning.{list_ranges}
 use Rattle.rpl_reader.specs.Layout.{Step}
 use Rattle.rpl_reader.specs.Written.{IsPlainRange, IsPlainStep, guard_holds, step_outcome, steps_outcome}
 use Rattle.policy_program.specs.Plan.{Plain, ranges_at, plain_holds, plain_outcome, first_outcome}
-use Rattle.policy_program.specs.Planned.{Lists, SameActions, IsGuard, Plans, AreRangesOf}
+use Rattle.policy_program.specs.Planned.{Lists, SameActions, IsGuard, Plans, AreRangesOf, HavePreferences}
 
 pub all_by_place : {A : Type 0} (P : A → Type 0) (xs : List A) → ((p : ℕ) (x : A) → slice_get xs p ≡ Some x → P x) → AllByRecursion P xs
 all_by_place P [] at = tt
@@ -24,10 +24,6 @@ all_by_place P (x ∷ xs) at = (at 0 x refl, all_by_place P xs (λ p y e. at (su
 pub plain_sets : (lists : Lists) (sets : List (List RangeParts)) → AreRangesOf lists sets → ((q : List ℕ) → AllByRecursion IsPlainRange (ranges_at lists q)) → AllByRecursion (AllByRecursion IsPlainRange) sets
 plain_sets lists sets of plain = all_by_place (AllByRecursion IsPlainRange) sets
   (λ p x e. let named = of p x e in subst (AllByRecursion IsPlainRange) (sym named.1) (plain named.0))
-
--- the local preferences of entries fit
-abbrev pub HavePreferences : List Plain → Type 0
-HavePreferences es = AllByRecursion (λ e. AllByRecursion (λ n. n < 2 ^ 32) e.preferences) es
 
 place_within : (sets : List (List RangeParts)) (guard : Option ℕ) (place : ℕ) (x : List RangeParts) → guard ≡ Some place → slice_get sets place ≡ Some x → IfSome guard (λ p. p < length sets)
 place_within sets guard place x guards at = subst (λ g. IfSome g (λ p. p < length sets)) (sym guards) (slice_get_within sets place x at)

@@ -1,10 +1,12 @@
 -- Steps over sets that say what plain entries do.
-use Rattle.std.specs.Prelude.{◌≡◌, ℕ, List, [], ◌∷◌, Option, Some, None, slice_get, Vec}
+use Rattle.std.specs.Prelude.{◌≡◌, ℕ, ◌<◌, ◌^◌, List, [], ◌∷◌, Option, Some, None, slice_get, Vec}
+use Rattle.std.specs.List.{AllByRecursion}
 use Rattle.std.specs.Borrow.{Bor}
 use Rattle.std.specs.BTreeMap.{BTreeMap}
 use Rattle.std.specs.declared.alloc.Global.{Global}
 use Rattle.route_types.specs.Range.{RangeParts}
-use Rattle.rpl_reader.specs.Layout.{Step}
+use Rattle.rpl_reader.specs.Layout.{Step, policy_text}
+use Rattle.rpl_reader.specs.Written.{IsWritable}
 use Rattle.policy_program.specs.Plan.{Plain, ranges_at}
 
 -- ranges under the names of lists
@@ -35,3 +37,15 @@ Plans lists sets (s ∷ ss) (e ∷ es) = SameActions s e × elim e.guard [
 -- each set has the ranges of a list
 abbrev pub AreRangesOf : Lists → List (List RangeParts) → Type 0
 AreRangesOf lists sets = (place : ℕ) (ranges : List RangeParts) → slice_get sets place ≡ Some ranges → (name : List ℕ) × (ranges ≡ ranges_at lists name)
+
+-- the local preferences of entries fit
+abbrev pub HavePreferences : List Plain → Type 0
+HavePreferences es = AllByRecursion (λ e. AllByRecursion (λ n. n < 2 ^ 32) e.preferences) es
+
+-- the text is that of sets and steps that can be written, and the steps do what the entries do
+pub record IsTextOf (lists : Lists) (es : List Plain) (name text : List ℕ) : Type 0 where
+  pub sets : List (List RangeParts)
+  pub steps : List Step
+  pub writable : IsWritable name sets steps
+  pub layout : text ≡ policy_text name sets steps
+  pub planned : Plans lists sets steps es

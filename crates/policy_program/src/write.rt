@@ -1,17 +1,39 @@
 // Writing a policy in RPL: its plan, and the text of that.
-ghost use Rattle.std.specs.Prelude.{◌≡◌, IfOk, true};
+ghost use Rattle.std.specs.Prelude.{◌≡◌, ℕ, List, IfOk, true};
 ghost use Rattle.std.specs.List.{AllByRecursion};
 ghost use Rattle.ios_reader.specs.Profile.{InProfile};
-ghost use Rattle.rpl_reader.specs.Written.{is_new_name};
-ghost use Rattle.policy_program.specs.Plan.{HasPlainForm};
+ghost use Rattle.rpl_reader.specs.Written.{is_new_name, IsPlainRange};
+ghost use Rattle.policy_program.specs.Plan.{HasPlainForm, ranges_at, entry_views};
+ghost use Rattle.policy_program.specs.Planned.{HavePreferences, IsTextOf};
 ghost use Rattle.policy_program.specs.Written.{Writes};
 
-use crate::plan::{ordered_entries, ordered_list_entries, ranges_by_list, steps_of};
+use crate::plan::{PlainEntry, ordered_entries, ordered_list_entries, ranges_by_list, steps_of};
 use crate::rpl_text::push_policy;
 use indexmap::IndexSet;
 use ios_reader::IosItem;
-use route_types::Memory;
+use route_types::{Memory, PrefixRange};
 use std::alloc::Global;
+use std::collections::BTreeMap;
+
+/// The RPL text of entries over the ranges of lists, under a new name.
+fn text_of_entries<'a>(
+    alloc: Global,
+    lists: &BTreeMap<&'a [u8], Vec<PrefixRange>>,
+    entries: &[PlainEntry<'a>],
+    name: &[u8],
+) -> Result<Vec<u8>, Memory>
+    requires ranges { (q : List ℕ) → AllByRecursion IsPlainRange (ranges_at lists.now q) }
+    requires preferences { HavePreferences (entry_views entries.now) }
+    requires named { is_new_name name.now ≡ true }
+    ensures { IfOk result (λ text. IsTextOf lists.now (entry_views entries.now) name.now text.items) }
+{
+    let mut sets = IndexSet::new(alloc);
+    let steps = steps_of(alloc, lists, entries, &mut sets)?;
+    let mut text = Vec::new(alloc);
+    let in_order = sets.as_slice();
+    push_policy(&mut text, name, in_order, steps.as_slice())?;
+    Ok(text)
+}
 
 /// The RPL text, under a new name, of the policy of this name among the items. Its one error is want of
 /// memory.
@@ -31,9 +53,6 @@ pub fn write_policy(
     let lists = ranges_by_list(alloc, listed)?;
     let entries = ordered_entries(alloc, policy, items)?;
     let ordered = entries.as_slice();
-    let mut sets = IndexSet::new(alloc);
-    let steps = steps_of(alloc, &lists, ordered, &mut sets)?;
-    let mut text = Vec::new(alloc);
-    push_policy(&mut text, name, sets.as_slice(), steps.as_slice())?;
+    let text = text_of_entries(alloc, &lists, ordered, name)?;
     Ok(text)
 }
