@@ -9,7 +9,8 @@ use Rattle.route_types.specs.declared.statement.Statement.{Statement}
 use Rattle.route_types.proofs.Printed.{IsPlain, prefix_of_plain}
 use Rattle.ios_reader.specs.Cut.{texts, ios_cut}
 use Rattle.ios_reader.specs.Spelling.{Spell}
-use Rattle.ios_reader.specs.Tree.{known_form, name_under, or_else, form_of, sort_of, belongs, opens, items_of, ios_tree}
+use Rattle.route_types.specs.Names.{or_else}
+use Rattle.ios_reader.specs.Tree.{known_form, name_under, form_of, sort_of, belongs, opens, items_of, ios_tree}
 use Rattle.ios_reader.specs.declared.item.ItemSort.{ItemSort}
 use Rattle.ios_reader.specs.declared.item.IosForm.{IosForm}
 use Rattle.ios_reader.specs.declared.item.IosForm.TheVariants.{PrefixEntry, MapHeader, MatchPrefix, SetLocalPreference, Other}

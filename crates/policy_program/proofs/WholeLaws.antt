@@ -5,7 +5,7 @@ use Rattle.std.specs.List.{list_any, AllByRecursion}
 use Rattle.std.specs.List.Sorted.{IsPermutation, IsNonDecreasingBy}
 use Rattle.std.proofs.lemmas.List.Sorted.{IsNonDecreasingBy-short, IsNonDecreasingBy-from_default, All-permutation}
 use Rattle.std.proofs.lemmas.List.Elements.{All-from_recursion, recursion_from_All}
-use Rattle.std.proofs.lemmas.List.{get_or-map}
+use Rattle.std.proofs.lemmas.List.{get_or-map, length-map}
 use Rattle.route_types.specs.Range.{RangeParts, in_range}
 use Rattle.route_types.specs.Route.{RouteParts}
 use Rattle.ios_reader.specs.Profile.{InProfile}
@@ -25,7 +25,12 @@ use Rattle.policy_program.proofs.WriteLaws.{same_outcome}
 -- the entries of the code are in order as plain ones too
 pub ordered_views : (xs : List PlainEntry) → IsNonDecreasingBy (λ e. e.number) xs → IsNonDecreasingBy (λ e. e.number) (entry_views xs)
 ordered_views [] h = IsNonDecreasingBy-short (λ e. e.number) [] (omega arith)
-ordered_views (x ∷ xs) h = ?
+ordered_views (x ∷ xs) h = IsNonDecreasingBy-from_default (λ e. e.number) (entry_views (x ∷ xs)) (entry_view x)
+  (λ i j le lt.
+    let within : j < length (x ∷ xs) = rw (length-map (x ∷ xs) entry_view) at lt in
+    let here : get_or (entry_views (x ∷ xs)) i (entry_view x) ≡ entry_view (get_or (x ∷ xs) i x) = get_or-map entry_view (x ∷ xs) i x (entry_view x) (omega arith) in
+    let there : get_or (entry_views (x ∷ xs)) j (entry_view x) ≡ entry_view (get_or (x ∷ xs) j x) = get_or-map entry_view (x ∷ xs) j x (entry_view x) within in
+    rw (here, there) (h i j x le within))
 
 plain_preferences : (es : List Entry) → AllByRecursion (λ e. AllByRecursion IsPlainForm e.lines) es → HavePreferences (plain_entries es)
 plain_preferences [] fit = tt

@@ -2,6 +2,9 @@
 use Rattle.std.proofs.Common.{◌≡◌, ◌<◌, ◌^◌, ℕ, zero, suc, Bool, true, false, length, List, [], ◌∷◌, Option, Some, None, refl, sym, ap, subst, ◌∙◌, arith}
 use Rattle.std.specs.Prelude.{slice_get, map, unwrap_or, IfSome}
 use Rattle.std.specs.List.{list_any, AllByRecursion}
+use Rattle.std.specs.Borrow.{Bor}
+use Rattle.std.proofs.lemmas.List.{length-map}
+use Rattle.policy_program.specs.Steps.{contents}
 use Rattle.std.proofs.lemmas.Option.{slice_get_within}
 use Rattle.route_types.specs.Range.{RangeParts, in_range}
 use Rattle.route_types.specs.Route.{RouteParts}
@@ -84,3 +87,16 @@ same_outcome lists sets all r (s ∷ ss) (e ∷ es) planned alike = go (λ p. sa
         ap (λ (b : Bool). pick b (step_outcome r s) (steps_outcome sets r ss)) (ours ∙ alike name ∙ sym theirs)
       ∙ ap (λ (o : Outcome). pick (plain_holds all r e.guard) o (steps_outcome sets r ss)) (same_step r s e planned.0)
       ∙ ap (λ (o : Outcome). pick (plain_holds all r e.guard) (plain_outcome r e) o) (tail more.1)
+
+-- a step that fits few sets fits more
+pub steps_below : (n m : ℕ) (steps : List Step) → n < m → AllByRecursion (IsPlainStep n) steps → AllByRecursion (IsPlainStep m) steps
+steps_below n m [] h fit = tt
+steps_below n m (s ∷ ss) h fit = (record { guard = guard_below s.guard fit.0.guard; preferences = fit.0.preferences }, steps_below n m ss h fit.1)
+  where
+    guard_below : (g : Option ℕ) → IfSome g (λ p. p < n) → IfSome g (λ p. p < m)
+    guard_below None k = tt
+    guard_below (Some p) k = omega arith
+
+-- a slice of keys that is short has few sets in it
+pub contents_few : (keys seen : List (Bor (List RangeParts))) (m : ℕ) → seen ≡ keys → length seen < m → length (contents keys) < m
+contents_few keys seen m same short = rw (length-map keys (λ s. s.now)) (subst (λ (x : List (Bor (List RangeParts))). length x < m) same short)
