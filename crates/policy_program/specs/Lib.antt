@@ -5,3 +5,8 @@ pub mod Status
 pub mod Ends
 pub mod Plan
 pub mod Steps
+pub mod Translated
+pub mod Spelled
+pub mod Refused
+pub mod Layers
+pub mod Unfetched
