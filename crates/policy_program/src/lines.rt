@@ -2,7 +2,7 @@
 ghost use Rattle.std.specs.Prelude.{◌≡◌, map};
 ghost use Rattle.policy_outside.specs.Sink.{joined};
 ghost use Rattle.policy_program.specs.Ends.{ReceivedLine};
-ghost use Rattle.policy_program.specs.Lines.{cause_name, usage_line, no_policy_line, outside_line, unread_line, too_long_line, unwritten_line, memory_line};
+ghost use Rattle.policy_program.specs.Lines.{cause_name, usage_line, no_policy_line, fault_line, outside_line, unread_line, too_long_line, unwritten_line, memory_line};
 
 use crate::place::place_of;
 use itoa::Buffer;
@@ -74,18 +74,25 @@ pub(crate) fn tell_outside<E: Sink>(
     let place = place_of(source, span.start);
     let mut line = Buffer::new();
     let mut column = Buffer::new();
+    let line = line.format(place.line);
+    let column = column.format(place.column);
+    tell_fault(
+        err,
+        file.as_bytes(),
+        line.as_bytes(),
+        column.as_bytes(),
+        cause_name(cause).as_bytes(),
+    );
+}
+
+/// Tells a fault whose place and cause are printed.
+fn tell_fault<E: Sink>(err: &mut E, file: &[u8], line: &[u8], column: &[u8], cause: &[u8])
+    ensures { ReceivedLine (record { before = E.seen err.old; now = E.seen err.new })
+        (fault_line file.now line.now column.now cause.now) }
+{
     tell(
         err,
-        &[
-            file.as_bytes(),
-            b":",
-            line.format(place.line).as_bytes(),
-            b":",
-            column.format(place.column).as_bytes(),
-            b": outside: ",
-            cause_name(cause).as_bytes(),
-            b"\n",
-        ],
+        &[file, b":", line, b":", column, b": outside: ", cause, b"\n"],
     );
 }
 
