@@ -4,3 +4,4 @@ pub mod Lists
 pub mod Spelled
 pub mod Told
 pub mod Endings
+pub mod Ended

@@ -10,3 +10,6 @@ pub mod Spelled
 pub mod Refused
 pub mod Layers
 pub mod Unfetched
+pub mod Headline
+pub mod Exact
+pub mod Complete

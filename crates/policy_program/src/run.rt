@@ -7,6 +7,9 @@ ghost use Rattle.policy_program.specs.Command.{Accepts};
 ghost use Rattle.policy_program.specs.Spelled.{request_view};
 ghost use Rattle.policy_program.specs.Ends.{ReceivedLine, EndsAs, most_bytes};
 ghost use Rattle.policy_program.specs.Lines.{usage_line};
+ghost use Rattle.policy_program.specs.Headline.{WritesTranslation};
+ghost use Rattle.policy_program.specs.Exact.{IsExact};
+ghost use Rattle.policy_program.specs.Complete.{IsComplete};
 ghost use Rattle.policy_program.specs.Refused.{refusal_status, refusal_line};
 ghost use Rattle.policy_program.specs.Unfetched.{fault_status, fault_line};
 ghost use Rattle.policy_program.specs.Layers.{WritesAs, AnswersAs};
@@ -35,7 +38,30 @@ pub fn run<S: Shelf, O: Sink, E: Sink>(
     out: &mut O,
     err: &mut E,
 ) -> Status
+    ensures headline { result ≡ Status.Done → WritesTranslation (map string_bytes words.now)
+        (record { before = S.seen shelf.old; now = S.seen shelf.new })
+        (record { before = O.seen out.old; now = O.seen out.new }) }
+    ensures complete { IsComplete (map string_bytes words.now)
+        (record { before = S.seen shelf.old; now = S.seen shelf.new })
+        (record { before = O.seen out.old; now = O.seen out.new }) result }
+    ensures exact { IsExact (map string_bytes words.now) (S.seen shelf.old).texts result }
     ensures ends { EndsAs (map string_bytes words.now)
+        (record { before = S.seen shelf.old; now = S.seen shelf.new })
+        (record { before = O.seen out.old; now = O.seen out.new })
+        (record { before = E.seen err.old; now = E.seen err.new }) result }
+{
+    run_words(alloc, words, shelf, out, err)
+}
+
+/// Does what the words ask for.
+fn run_words<S: Shelf, O: Sink, E: Sink>(
+    alloc: Global,
+    words: &[String],
+    shelf: &mut S,
+    out: &mut O,
+    err: &mut E,
+) -> Status
+    ensures { EndsAs (map string_bytes words.now)
         (record { before = S.seen shelf.old; now = S.seen shelf.new })
         (record { before = O.seen out.old; now = O.seen out.new })
         (record { before = E.seen err.old; now = E.seen err.new }) result }
