@@ -7,16 +7,16 @@ use Rattle.route_types.specs.declared.fault.Cause.{Cause}
 use Rattle.ios_reader.specs.Tree.{ios_tree}
 use Rattle.ios_reader.specs.Profile.{InProfile, is_defined, first_fault}
 use Rattle.policy_outside.specs.Shelf.{FaultRose}
-use Rattle.policy_outside.specs.Texts.{Texts, text_at, IsTold, IsLonger}
+use Rattle.policy_outside.specs.Texts.{Texts, IsTold, IsLonger}
 use Rattle.policy_program.specs.Command.{Request, Accepts, IsRefused}
 use Rattle.policy_program.specs.Translation.{IsTranslation, IsNoPolicy, IsFirstFault}
 use Rattle.policy_program.specs.Ends.{Shelves, Sinks, IsSource, EndsAs, most_bytes}
 use Rattle.policy_program.specs.Headline.{WritesTranslation}
 use Rattle.policy_program.specs.Exact.{TellsText, TellsNone, first_status, right_status, IsRight, IsExact}
-use Rattle.policy_program.specs.Complete.{WroteWhole, Completes, IsComplete}
+use Rattle.policy_program.specs.Complete.{IsComplete}
 use Rattle.policy_program.proofs.Spelled.{accepted_once}
 use Rattle.policy_program.specs.declared.status.Status.{Status}
-use Rattle.policy_program.specs.declared.status.Status.TheVariants.{Done, Same, Differ, Usage, Broken, NoPolicy, Outside, Inexpressible, FetchFailed, TooLong, WriteFailed, Memory, RouteRefused}
+use Rattle.policy_program.specs.declared.status.Status.TheVariants.{Done, Usage, NoPolicy, Outside, FetchFailed, TooLong, WriteFailed, Memory}
 
 -- a run that is done wrote a right translation
 pub headline : (words : List (List ℕ)) (shelf : Shelves) (out err : Sinks) (status : Status) → EndsAs words shelf out err status → status ≡ Done → WritesTranslation words shelf out
@@ -158,6 +158,10 @@ in_profile : (q p : Request) (source text : List ℕ) → IsAbout q p source tex
 in_profile q p source text a profile =
     subst (λ (r : Request). InProfile r.policy (ios_tree text)) (sym a.same_request) (subst (λ (t : List ℕ). InProfile q.policy (ios_tree t)) (sym a.same_source) profile)
 
+not_both : (found : Option (Span × Cause)) (fault : Span × Cause) → found ≡ None → found ≡ Some fault → ⊥
+not_both None fault none some = absurd cc
+not_both (Some other) fault none some = absurd cc
+
 -- a policy in profile is translated
 pub complete : (words : List (List ℕ)) (shelf : Shelves) (out err : Sinks) (status : Status) → EndsAs words shelf out err status → IsComplete words shelf out status
 complete words shelf out err Done ends q source accepted tells within profile =
@@ -170,8 +174,7 @@ complete words shelf out err NoPolicy ends q source accepted tells within profil
     absurd cc
 complete words shelf out err Outside ends q source accepted tells within profile =
     let there = in_profile q ends.request source ends.source (about words shelf q ends.request source ends.source accepted tells ends.accepted ends.is_source) profile in
-    let no : None ≡ Some (ends.span, ends.fault) = sym there.sound ∙ ends.cause.first in
-    absurd cc
+    absurd (not_both (first_fault ends.request.policy (ios_tree ends.source)) (ends.span, ends.fault) there.sound ends.cause.first)
 complete words shelf out err FetchFailed ends q source accepted tells within profile =
     subst (λ (r : Request). FaultRose shelf.before shelf.now r.file) (accepted_once words ends.request q ends.accepted accepted) ends.fault
 complete words shelf out err TooLong ends q source accepted tells within profile =

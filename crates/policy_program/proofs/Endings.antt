@@ -1,9 +1,9 @@
 -- From how the layers of a run end to how the run ends.
-use Rattle.std.proofs.Common.{◌≡◌, ◌⊎◌, inl, inr, sym, subst, ℕ, List, Result, Ok, Err, Vec}
+use Rattle.std.proofs.Common.{◌≡◌, inl, inr, sym, subst, ℕ, List, Ok, Err, Vec}
 use Rattle.std.specs.declared.alloc.Global.{Global}
 use Rattle.policy_outside.specs.declared.faults.FetchFault.{FetchFault}
 use Rattle.policy_outside.specs.declared.faults.FetchFault.TheVariants.{Failed, TooLong as LongFault, Memory as MemoryFault}
-use Rattle.policy_outside.specs.Shelf.{ShelfView, Fetches}
+use Rattle.policy_outside.specs.Shelf.{Fetches}
 use Rattle.policy_program.specs.Command.{Request, Accepts}
 use Rattle.policy_program.specs.Translated.{Answer, Translates}
 use Rattle.policy_program.specs.Ends.{Shelves, Sinks, IsSource, NoFault, ReceivedNothing, ReceivedLine, EndsAs, most_bytes}

@@ -3,7 +3,7 @@ use Rattle.std.proofs.Common.{◌≡◌, ℕ, refl, sym, ap, subst, ◌∙◌, B
 use Rattle.std.specs.Prelude.{codes, bytes_eq, option_map, IfSome, IfNone}
 use Rattle.std.proofs.lemmas.Bool.{and_parts, and_from}
 use Rattle.std.proofs.lemmas.Slice.Eq.{bytes_eq-Decides}
-use Rattle.route_types.specs.Words.{◌>>=◌, when}
+use Rattle.route_types.specs.Words.{when}
 use Rattle.route_types.proofs.Numbers.{bind_found}
 use Rattle.rpl_reader.specs.Written.{is_new_name}
 use Rattle.policy_program.specs.Command.{Request, words_of, Accepts, IsRefused, is_policy_word}
@@ -69,8 +69,8 @@ request_in_found words q e =
     let fit = and_parts (is_policy_word source.0.0) (is_new_name target.0.0) found.0 in
     subst (Accepts words) found.1 (record {
       spelled =
-        source_part_found words source.0 source.1
-        ∙ ap (λ (xs : List (List ℕ)). codes "translate" ∷ codes "--from" ∷ codes "ios" ∷ codes "--policy" ∷ source.0.0 ∷ xs)
+          source_part_found words source.0 source.1
+          ∙ ap (λ (xs : List (List ℕ)). codes "translate" ∷ codes "--from" ∷ codes "ios" ∷ codes "--policy" ∷ source.0.0 ∷ xs)
           (target_part_found source.0.1 target.0 target.1
           ∙ ap (λ (xs : List (List ℕ)). codes "--to" ∷ codes "rpl" ∷ codes "--as" ∷ target.0.0 ∷ xs) (only_word_found target.0.1 file.0 file.1));
       policy = fit.0;

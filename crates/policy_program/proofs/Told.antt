@@ -1,5 +1,5 @@
 -- A line that was put is received, or a prefix of it where a count rose.
-use Rattle.std.proofs.Common.{◌≡◌, ◌⊎◌, inl, inr, ℕ, List, Result, Ok, Err}
+use Rattle.std.proofs.Common.{inl, inr, ℕ, List, Result, Ok, Err}
 use Rattle.policy_outside.specs.declared.faults.PutFault.{PutFault}
 use Rattle.policy_outside.specs.Sink.{SinkView, Puts}
 use Rattle.policy_outside.proofs.PutLaws.{fault_has_cause}

@@ -1,5 +1,5 @@
 -- Lines and columns of a text, and the one line that a refusal puts on `err`.
-use Rattle.std.specs.Prelude.{ℕ, ◌+◌, Bool, true, false, ◌==◌, List, [], ◌∷◌, ◌++◌, take, count_by, codes, decimal}
+use Rattle.std.specs.Prelude.{ℕ, ◌+◌, true, false, ◌==◌, List, [], ◌∷◌, take, count_by, codes, decimal}
 use Rattle.policy_outside.specs.Sink.{joined}
 use Rattle.route_types.specs.declared.statement.Span.{Span}
 use Rattle.route_types.specs.declared.fault.Cause.{Cause}

@@ -1,5 +1,5 @@
 -- How the words of the command are read, from the first to the last.
-use Rattle.std.specs.Prelude.{◌≡◌, ℕ, Bool, true, false, ◌&&◌, List, [], ◌∷◌, Option, Some, None, codes, bytes_eq}
+use Rattle.std.specs.Prelude.{ℕ, ◌&&◌, List, [], ◌∷◌, Option, Some, None, codes, bytes_eq}
 use Rattle.route_types.specs.Words.{◌>>=◌, when}
 use Rattle.rpl_reader.specs.Written.{is_new_name}
 use Rattle.policy_program.specs.Command.{Request, is_policy_word}

@@ -13,15 +13,13 @@ mod translate;
 pub use command::{Request, read_words};
 pub use lines::cause_name;
 pub use place::{Place, place_of};
+use policy_outside::{FileShelf, WriteSink};
 pub use run::run;
 pub use status::Status;
-pub use translate::{Refusal, translate};
-
-use policy_outside::{FileShelf, WriteSink};
 use std::alloc::Global;
-use std::env;
-use std::io;
 use std::process::ExitCode;
+use std::{env, io};
+pub use translate::{Refusal, translate};
 
 /// Why the words of the program could not be had.
 enum WordsFault {

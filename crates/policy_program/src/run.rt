@@ -154,12 +154,7 @@ fn answer_source<O: Sink, E: Sink>(
 }
 
 /// Tells why the policy was not translated.
-fn refuse<E: Sink>(
-    request: &Request<'_>,
-    source: &[u8],
-    refusal: Refusal,
-    err: &mut E,
-) -> Status
+fn refuse<E: Sink>(request: &Request<'_>, source: &[u8], refusal: Refusal, err: &mut E) -> Status
     ensures status { result ≡ refusal_status refusal }
     ensures line { ReceivedLine (record { before = E.seen err.old; now = E.seen err.new })
         (refusal_line (request_view request.now) source.now refusal) }

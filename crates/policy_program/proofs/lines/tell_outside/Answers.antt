@@ -1,5 +1,5 @@
 -- the printed place and cause are those of the fault
-use Rattle.std.proofs.Common.{◌≡◌, ℕ, List, subst, sym, ap, ◌∙◌}
+use Rattle.std.proofs.Common.{◌≡◌, ℕ, List, subst, ap, ◌∙◌}
 use Rattle.std.specs.Prelude.{decimal}
 use Rattle.policy_program.specs.Ends.{Sinks, ReceivedLine}
 use Rattle.policy_program.specs.Lines.{line_of, column_of, cause_name, fault_line}

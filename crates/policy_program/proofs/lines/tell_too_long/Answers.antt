@@ -1,6 +1,6 @@
 -- the file's name is the one that was put
 use Rattle.std.proofs.Common.{ℕ, List, subst}
-use Rattle.policy_program.specs.Ends.{Sinks, ReceivedLine}
+use Rattle.policy_program.specs.Ends.{ReceivedLine}
 use Rattle.policy_program.specs.Lines.{too_long_line}
 use Rattle.policy_program.proofs.lines.tell_too_long.Goals as goal
 

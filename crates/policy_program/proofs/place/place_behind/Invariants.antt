@@ -9,7 +9,7 @@ invariant-loop-rest l = record {
   lines : l.line + count_by (λ b. b == 10) l.rest ≡ 1 + count_by (λ b. b == 10) l.text;
   columns : column_behind l.column l.rest ≡ column_behind 1 l.text;
   few_lines : l.line + length l.rest ≤ 1 + length l.text;
-  few_columns : l.column + length l.rest ≤ 1 + length l.text
+  few_columns : l.column + length l.rest ≤ 1 + length l.text;
 }
 
 abbrev pub decreases-loop-rest : goal.decreases-loop-rest
