@@ -10,3 +10,7 @@ pub mod PlainEntries
 pub mod Ordered
 pub mod IosMeaning
 pub mod WholeLaws
+pub mod Spelled
+pub mod Told
+pub mod Endings
+pub mod Ended

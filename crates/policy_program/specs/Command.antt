@@ -1,6 +1,6 @@
 -- The words of the command that is open: ten, in this order.
-use Rattle.std.specs.Prelude.{◌≡◌, ℕ, ◌&&◌, ◌||◌, not, Bool, true, false, nat_lt, ◌==◌, List, [], ◌∷◌, codes}
-use Rattle.std.specs.List.{list_any}
+use Rattle.std.specs.Prelude.{◌≡◌, ℕ, ◌&&◌, not, Bool, true, nat_lt, ◌==◌, List, [], ◌∷◌, length, codes}
+use Rattle.std.specs.List.{list_all}
 use Rattle.rpl_reader.specs.Written.{is_new_name}
 
 -- what the words name: the policy, its new name, and the file
@@ -14,8 +14,7 @@ abbrev pub is_policy_byte : ℕ → Bool
 is_policy_byte c = not (nat_lt c 33) && not (c == 34) && not (c == 39)
 
 abbrev pub is_policy_word : List ℕ → Bool
-is_policy_word [] = false
-is_policy_word (c ∷ cs) = not (list_any (λ b. not (is_policy_byte b)) (c ∷ cs))
+is_policy_word word = not (length word == 0) && list_all is_policy_byte word
 
 -- the words of `translate` that make this request
 abbrev pub words_of : Request → List (List ℕ)

@@ -8,3 +8,11 @@ pub mod Steps
 pub mod Sets
 pub mod Planned
 pub mod Written
+pub mod Translated
+pub mod Spelled
+pub mod Refused
+pub mod Layers
+pub mod Unfetched
+pub mod Headline
+pub mod Exact
+pub mod Complete

@@ -1,5 +1,5 @@
 -- Lines and columns of a text, and the one line that a refusal puts on `err`.
-use Rattle.std.specs.Prelude.{ℕ, ◌+◌, Bool, true, false, ◌==◌, List, [], ◌∷◌, ◌++◌, take, count_by, codes, decimal}
+use Rattle.std.specs.Prelude.{ℕ, ◌+◌, true, false, ◌==◌, List, [], ◌∷◌, take, count_by, codes, decimal}
 use Rattle.policy_outside.specs.Sink.{joined}
 use Rattle.route_types.specs.declared.statement.Span.{Span}
 use Rattle.route_types.specs.declared.fault.Cause.{Cause}
@@ -47,8 +47,11 @@ usage_line = codes "usage: translate, judge, compare or sample\n"
 abbrev pub no_policy_line : List ℕ → List ℕ → List ℕ
 no_policy_line file policy = joined (file ∷ codes ": no policy " ∷ policy ∷ codes "\n" ∷ [])
 
+abbrev pub fault_line : List ℕ → List ℕ → List ℕ → List ℕ → List ℕ
+fault_line file line column cause = joined (file ∷ codes ":" ∷ line ∷ codes ":" ∷ column ∷ codes ": outside: " ∷ cause ∷ codes "\n" ∷ [])
+
 abbrev pub outside_line : List ℕ → List ℕ → Span → Cause → List ℕ
-outside_line file text span cause = joined (file ∷ codes ":" ∷ decimal (line_of text span.start) ∷ codes ":" ∷ decimal (column_of text span.start) ∷ codes ": outside: " ∷ cause_name cause ∷ codes "\n" ∷ [])
+outside_line file text span cause = fault_line file (decimal (line_of text span.start)) (decimal (column_of text span.start)) (cause_name cause)
 
 abbrev pub unread_line : List ℕ → List ℕ
 unread_line file = joined (file ∷ codes ": cannot be read\n" ∷ [])

@@ -1,0 +1,127 @@
+// The one line that a refusal puts on `err`, in pieces that take no memory.
+ghost use Rattle.std.specs.Prelude.{◌≡◌, map};
+ghost use Rattle.policy_outside.specs.Sink.{joined};
+ghost use Rattle.policy_program.specs.Ends.{ReceivedLine};
+ghost use Rattle.policy_program.specs.Lines.{cause_name, usage_line, no_policy_line, fault_line, outside_line, unread_line, too_long_line, unwritten_line, memory_line};
+
+use crate::place::place_of;
+use itoa::Buffer;
+use policy_outside::{Sink, put_line};
+use route_types::{Cause, Span};
+
+/// The name of a cause as it is printed: lower case, with dashes between its words.
+pub fn cause_name(cause: Cause) -> &'static str
+    ensures { result.now ≡ cause_name cause }
+{
+    match cause {
+        Cause::UnknownForm => "unknown-form",
+        Cause::DefinedTwice => "defined-twice",
+        Cause::SequenceTwice => "sequence-twice",
+        Cause::Undefined => "undefined",
+        Cause::SameKindTwice => "same-kind-twice",
+        Cause::BackwardContinue => "backward-continue",
+        Cause::DenyContinue => "deny-continue",
+        Cause::UnsettledTest => "unsettled-test",
+        Cause::ExactExpanded => "exact-expanded",
+        Cause::NotPlain => "not-plain",
+        Cause::MixedPrefixTests => "mixed-prefix-tests",
+        Cause::SamePrefixTwice => "same-prefix-twice",
+        Cause::PathTestAfterPrepend => "path-test-after-prepend",
+        Cause::SubroutineChanges => "subroutine-changes",
+        Cause::NextPolicyInSubroutine => "next-policy-in-subroutine",
+        Cause::Cycle => "cycle",
+        Cause::TooDeep => "too-deep",
+        Cause::ArgumentCount => "argument-count",
+        Cause::BadArgument => "bad-argument",
+    }
+}
+
+/// Puts a line, whatever the sink does with it.
+#[tactic(auto, using(crate::proofs::Told::received_line))]
+fn tell<E: Sink>(err: &mut E, pieces: &[&[u8]])
+    ensures { ReceivedLine (record { before = E.seen err.old; now = E.seen err.new })
+        (joined (map (λ piece. piece.now) pieces.now)) }
+{
+    let _ = put_line(err, pieces);
+}
+
+/// Tells that the words make no request.
+pub(crate) fn tell_usage<E: Sink>(err: &mut E)
+    ensures { ReceivedLine (record { before = E.seen err.old; now = E.seen err.new }) usage_line }
+{
+    tell(err, &[b"usage: translate, judge, compare or sample\n"]);
+}
+
+/// Tells that no policy stands under the name.
+pub(crate) fn tell_no_policy<E: Sink>(err: &mut E, file: &str, policy: &[u8])
+    ensures { ReceivedLine (record { before = E.seen err.old; now = E.seen err.new })
+        (no_policy_line file.now policy.now) }
+{
+    tell(err, &[file.as_bytes(), b": no policy ", policy, b"\n"]);
+}
+
+/// Tells the fault that stands at the start of `span` in the text of the file.
+pub(crate) fn tell_outside<E: Sink>(
+    err: &mut E,
+    file: &str,
+    source: &[u8],
+    span: Span,
+    cause: Cause,
+)
+    ensures { ReceivedLine (record { before = E.seen err.old; now = E.seen err.new })
+        (outside_line file.now source.now span cause) }
+{
+    let place = place_of(source, span.start);
+    let mut line = Buffer::new();
+    let mut column = Buffer::new();
+    let line = line.format(place.line);
+    let column = column.format(place.column);
+    tell_fault(
+        err,
+        file.as_bytes(),
+        line.as_bytes(),
+        column.as_bytes(),
+        cause_name(cause).as_bytes(),
+    );
+}
+
+/// Tells a fault whose place and cause are printed.
+fn tell_fault<E: Sink>(err: &mut E, file: &[u8], line: &[u8], column: &[u8], cause: &[u8])
+    ensures { ReceivedLine (record { before = E.seen err.old; now = E.seen err.new })
+        (fault_line file.now line.now column.now cause.now) }
+{
+    tell(
+        err,
+        &[file, b":", line, b":", column, b": outside: ", cause, b"\n"],
+    );
+}
+
+/// Tells that the file could not be read.
+pub(crate) fn tell_unread<E: Sink>(err: &mut E, file: &str)
+    ensures { ReceivedLine (record { before = E.seen err.old; now = E.seen err.new })
+        (unread_line file.now) }
+{
+    tell(err, &[file.as_bytes(), b": cannot be read\n"]);
+}
+
+/// Tells that the file has too many bytes.
+pub(crate) fn tell_too_long<E: Sink>(err: &mut E, file: &str)
+    ensures { ReceivedLine (record { before = E.seen err.old; now = E.seen err.new })
+        (too_long_line file.now) }
+{
+    tell(err, &[file.as_bytes(), b": longer than 16777216 bytes\n"]);
+}
+
+/// Tells that the output was not taken.
+pub(crate) fn tell_unwritten<E: Sink>(err: &mut E)
+    ensures { ReceivedLine (record { before = E.seen err.old; now = E.seen err.new }) unwritten_line }
+{
+    tell(err, &[b"output cannot be written\n"]);
+}
+
+/// Tells want of memory.
+pub(crate) fn tell_memory<E: Sink>(err: &mut E)
+    ensures { ReceivedLine (record { before = E.seen err.old; now = E.seen err.new }) memory_line }
+{
+    tell(err, &[b"out of memory\n"]);
+}
