@@ -14,3 +14,4 @@ pub mod Spelled
 pub mod Told
 pub mod Endings
 pub mod Ended
+pub mod Right

@@ -34,7 +34,7 @@ pub guarded_step : (lists : Lists) (before now : List (List RangeParts)) (steps 
     → GoesOn lists before steps (e ∷ es) all → GoesOn lists now (steps ++ s ∷ []) es all
 guarded_step lists before now steps s e es all name place h same guards set grows so_far final tail extends rest =
     rw append_assoc (so_far final (s ∷ tail) (λ p x at. extends p x (stays before now (ranges_at lists name) grows p x at))
-      (plans_guarded lists final s tail e es name h same (record { place = place; guards = guards; set = extends place (ranges_at lists name) set }) rest))
+    (plans_guarded lists final s tail e es name h same (record { place = place; guards = guards; set = extends place (ranges_at lists name) set }) rest))
 
 -- the last step, without a guard
 pub last_step : (lists : Lists) (sets : List (List RangeParts)) (steps : List Step) (s : Step) (e : Plain) (es all : List Plain) → e.guard ≡ None → SameActions s e → s.guard ≡ None → GoesOn lists sets steps (e ∷ es) all
@@ -84,8 +84,8 @@ pub loop_step : (lists : Lists) (before now : List (List RangeParts)) (steps : L
 loop_step lists before now steps more s rest e all name place long at guard made pushed set grows so_far =
     let front : GoesOn lists before (steps_of steps) (entry_view e ∷ entry_views (take (length rest - 1) (drop 1 rest))) all = rw (views_apart rest e long at) at so_far in
     let done : GoesOn lists now (steps_of steps ++ step_of s ∷ []) (entry_views (take (length rest - 1) (drop 1 rest))) all =
-      guarded_step lists before now (steps_of steps) (step_of s) (entry_view e) (entry_views (take (length rest - 1) (drop 1 rest))) all name.now place
-        (ap (option_map (λ n. n.now)) guard) (record { preferences = ap (λ (x : Step). x.preferences) made; accept = ap (λ (x : Step). x.accept) made }) (ap (λ (x : Step). x.guard) made) set grows front in
+    guarded_step lists before now (steps_of steps) (step_of s) (entry_view e) (entry_views (take (length rest - 1) (drop 1 rest))) all name.now place
+    (ap (option_map (λ n. n.now)) guard) (record { preferences = ap (λ (x : Step). x.preferences) made; accept = ap (λ (x : Step). x.accept) made }) (ap (λ (x : Step). x.guard) made) set grows front in
     subst (λ (x : List Step). GoesOn lists now x (entry_views (take (length rest - 1) (drop 1 rest))) all) (sym (ap steps_of pushed ∙ map_push step_of steps s)) done
 
 -- the end of the loop

@@ -45,6 +45,7 @@ places_kept lists sets more places after name place before grows at up q p e = g
   where
     here : place_at after q ≡ cond (bytes_eq name q) (Some place) (place_at places q)
     here = btree_map_updates_str name places after (Some place) up q
+
     go : (b : Bool) → bytes_eq name q ≡ b → slice_get more p ≡ Some (ranges_at lists q)
     go true h =
         let named : name ≡ q = (bytes_eq-Decides name q).0 h in

@@ -26,7 +26,7 @@ use Rattle.policy_program.proofs.WriteLaws.{same_outcome}
 pub ordered_views : (xs : List PlainEntry) → IsNonDecreasingBy (λ e. e.number) xs → IsNonDecreasingBy (λ e. e.number) (entry_views xs)
 ordered_views [] h = IsNonDecreasingBy-short (λ e. e.number) [] (omega arith)
 ordered_views (x ∷ xs) h = IsNonDecreasingBy-from_default (λ e. e.number) (entry_views (x ∷ xs)) (entry_view x)
-  (λ i j le lt.
+    (λ i j le lt.
     let within : j < length (x ∷ xs) = rw (length-map (x ∷ xs) entry_view) at lt in
     let here : get_or (entry_views (x ∷ xs)) i (entry_view x) ≡ entry_view (get_or (x ∷ xs) i x) = get_or-map entry_view (x ∷ xs) i x (entry_view x) (omega arith) in
     let there : get_or (entry_views (x ∷ xs)) j (entry_view x) ≡ entry_view (get_or (x ∷ xs) j x) = get_or-map entry_view (x ∷ xs) j x (entry_view x) within in
@@ -58,5 +58,5 @@ writes items policy name text lists listed es profile plain lists_same at same o
   layout = made.layout;
   same = λ r. same_outcome lists made.sets items r made.steps es made.planned
       (λ q. ap (list_any (λ range. in_range range r.prefix)) (at q) ∙ ranges_any (λ range. in_range range r.prefix) q items listed lists_same)
-    ∙ meaning_is_ordered policy items r es profile plain same ordered;
+      ∙ meaning_is_ordered policy items r es profile plain same ordered;
 }

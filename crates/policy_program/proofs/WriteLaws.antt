@@ -26,7 +26,7 @@ all_by_place P (x ∷ xs) at = (at 0 x refl, all_by_place P xs (λ p y e. at (su
 -- the sets are plain where the ranges of all lists are
 pub plain_sets : (lists : Lists) (sets : List (List RangeParts)) → AreRangesOf lists sets → ((q : List ℕ) → AllByRecursion IsPlainRange (ranges_at lists q)) → AllByRecursion (AllByRecursion IsPlainRange) sets
 plain_sets lists sets of plain = all_by_place (AllByRecursion IsPlainRange) sets
-  (λ p x e. let named = of p x e in subst (AllByRecursion IsPlainRange) (sym named.1) (plain named.0))
+    (λ p x e. let named = of p x e in subst (AllByRecursion IsPlainRange) (sym named.1) (plain named.0))
 
 place_within : (sets : List (List RangeParts)) (guard : Option ℕ) (place : ℕ) (x : List RangeParts) → guard ≡ Some place → slice_get sets place ≡ Some x → IfSome guard (λ p. p < length sets)
 place_within sets guard place x guards at = subst (λ g. IfSome g (λ p. p < length sets)) (sym guards) (slice_get_within sets place x at)
@@ -40,15 +40,18 @@ plain_steps lists sets (s ∷ ss) (e ∷ es) planned fit = go (λ p. plain_steps
   where
     preferences : AllByRecursion (λ n. n < 2 ^ 32) s.preferences
     preferences = subst (AllByRecursion (λ n. n < 2 ^ 32)) (sym planned.0.preferences) fit.0
+
     go : (Plans lists sets ss es → AllByRecursion (IsPlainStep (length sets)) ss) → (g : Option (List ℕ)) → e.guard ≡ g → IsPlainStep (length sets) s × AllByRecursion (IsPlainStep (length sets)) ss
     go tail None h =
-        let last = rw h at planned.1 in
-        (record { guard = subst (λ g. IfSome g (λ p. p < length sets)) (sym last.0) tt; preferences = preferences },
-         subst (AllByRecursion (IsPlainStep (length sets))) (sym last.1) tt)
+        let last = rw h at planned.1 in (
+          record { guard = subst (λ g. IfSome g (λ p. p < length sets)) (sym last.0) tt; preferences = preferences },
+          subst (AllByRecursion (IsPlainStep (length sets))) (sym last.1) tt,
+        )
     go tail (Some name) h =
-        let more = rw h at planned.1 in
-        (record { guard = place_within sets s.guard more.0.place (ranges_at lists name) more.0.guards more.0.set; preferences = preferences },
-         tail more.1)
+        let more = rw h at planned.1 in (
+          record { guard = place_within sets s.guard more.0.place (ranges_at lists name) more.0.guards more.0.set; preferences = preferences },
+          tail more.1,
+        )
 
 -- lists hold as they do in the tree
 abbrev pub HoldAlike : Lists → List IosItem → RouteParts → Type 0
@@ -73,7 +76,7 @@ same_outcome lists sets all r [] (e ∷ es) planned alike = absurd planned
 same_outcome lists sets all r (s ∷ ss) (e ∷ es) planned alike = go (λ p. same_outcome lists sets all r ss es p alike) e.guard refl
   where
     go : (Plans lists sets ss es → steps_outcome sets r ss ≡ first_outcome all r es) → (g : Option (List ℕ)) → e.guard ≡ g
-      → pick (guard_holds sets r s.guard) (step_outcome r s) (steps_outcome sets r ss) ≡ pick (plain_holds all r e.guard) (plain_outcome r e) (first_outcome all r es)
+        → pick (guard_holds sets r s.guard) (step_outcome r s) (steps_outcome sets r ss) ≡ pick (plain_holds all r e.guard) (plain_outcome r e) (first_outcome all r es)
     go tail None h =
         let last = rw h at planned.1 in
         let ours : pick (guard_holds sets r s.guard) (step_outcome r s) (steps_outcome sets r ss) ≡ step_outcome r s = ap (λ g. pick (guard_holds sets r g) (step_outcome r s) (steps_outcome sets r ss)) last.0 in
@@ -82,11 +85,11 @@ same_outcome lists sets all r (s ∷ ss) (e ∷ es) planned alike = go (λ p. sa
     go tail (Some name) h =
         let more = rw h at planned.1 in
         let ours : guard_holds sets r s.guard ≡ list_any (λ range. in_range range r.prefix) (ranges_at lists name) =
-          ap (guard_holds sets r) more.0.guards ∙ ap (λ (o : Option (List RangeParts)). list_any (λ range. in_range range r.prefix) (unwrap_or o [])) more.0.set in
+        ap (guard_holds sets r) more.0.guards ∙ ap (λ (o : Option (List RangeParts)). list_any (λ range. in_range range r.prefix) (unwrap_or o [])) more.0.set in
         let theirs : plain_holds all r e.guard ≡ list_any (λ range. in_range range r.prefix) (list_ranges name all) = ap (plain_holds all r) h in
         ap (λ (b : Bool). pick b (step_outcome r s) (steps_outcome sets r ss)) (ours ∙ alike name ∙ sym theirs)
-      ∙ ap (λ (o : Outcome). pick (plain_holds all r e.guard) o (steps_outcome sets r ss)) (same_step r s e planned.0)
-      ∙ ap (λ (o : Outcome). pick (plain_holds all r e.guard) (plain_outcome r e) o) (tail more.1)
+        ∙ ap (λ (o : Outcome). pick (plain_holds all r e.guard) o (steps_outcome sets r ss)) (same_step r s e planned.0)
+        ∙ ap (λ (o : Outcome). pick (plain_holds all r e.guard) (plain_outcome r e) o) (tail more.1)
 
 -- a step that fits few sets fits more
 pub steps_below : (n m : ℕ) (steps : List Step) → n < m → AllByRecursion (IsPlainStep n) steps → AllByRecursion (IsPlainStep m) steps

@@ -11,8 +11,8 @@ pub push_policy-requires-clause-guards : goal.push_policy-requires-clause-guards
 push_policy-requires-clause-guards c =
     let short : length c.as_slice-in_order.result.now < 2 ^ 63 = search rules in
     rw c.as_slice.ensures.value (steps_below (length (contents c.steps_of.new.sets.keys)) (2 ^ 63) (steps_of c.in_ok-steps.steps.items)
-      (contents_few c.steps_of.new.sets.keys c.as_slice-in_order.result.now (2 ^ 63) c.as_slice-in_order.ensures.keys short)
-      (plain_steps c.args.lists.now (contents c.steps_of.new.sets.keys) (steps_of c.in_ok-steps.steps.items) (entry_views c.args.entries.now) c.in_ok-steps.ensures.planned c.requires.preferences))
+    (contents_few c.steps_of.new.sets.keys c.as_slice-in_order.result.now (2 ^ 63) c.as_slice-in_order.ensures.keys short)
+    (plain_steps c.args.lists.now (contents c.steps_of.new.sets.keys) (steps_of c.in_ok-steps.steps.items) (entry_views c.args.entries.now) c.in_ok-steps.ensures.planned c.requires.preferences))
 
 pub returns : goal.returns
 returns c =

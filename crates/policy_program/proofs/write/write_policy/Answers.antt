@@ -12,5 +12,5 @@ text_of_entries-requires-clause-preferences c = rw c.as_slice-ordered.ensures.va
 
 pub returns : goal.returns
 returns c = writes c.args.items.now c.args.policy.now c.args.name.now c.in_ok-text.text.items c.in_ok-lists.lists (map (λ e. e.now) c.in_ok-list_entries.list_entries.items) (entry_views c.in_ok-entries.entries.items)
-  c.requires.in_profile c.requires.plain c.in_ok-list_entries.ensures (rw c.as_slice-listed.ensures.value at c.in_ok-lists.ensures) c.in_ok-entries.ensures.same (ordered_views c.in_ok-entries.entries.items c.in_ok-entries.ensures.ordered)
-  (rw c.as_slice-ordered.ensures.value at c.in_ok-text.ensures)
+    c.requires.in_profile c.requires.plain c.in_ok-list_entries.ensures (rw c.as_slice-listed.ensures.value at c.in_ok-lists.ensures) c.in_ok-entries.ensures.same (ordered_views c.in_ok-entries.entries.items c.in_ok-entries.ensures.ordered)
+    (rw c.as_slice-ordered.ensures.value at c.in_ok-text.ensures)
