@@ -3,5 +3,5 @@ pub mod RangeEq
 pub mod Lists
 pub mod Spelled
 pub mod Told
-pub mod Endings
 pub mod Ended
+pub mod RunExamples
