@@ -5,7 +5,7 @@ use Rattle.std.specs.Fmt.{digits}
 use Rattle.route_types.specs.declared.fault.Cause.TheVariants.{UnknownForm}
 use Rattle.policy_program.specs.Command.{Request, words_of}
 use Rattle.policy_program.specs.Spelled.{source_part, target_part, request_in}
-use Rattle.policy_program.specs.Lines.{column_behind, line_of, column_of, outside_line, no_policy_line}
+use Rattle.policy_program.specs.Lines.{column_behind, column_of, outside_line, no_policy_line}
 
 abbrev request : Request
 request = record { policy = codes "IN-X"; name = codes "in_x"; file = codes "e.cfg" }
