@@ -14,9 +14,7 @@ use Rattle.std.proofs.lemmas.List.{append-nil}
 use Rattle.route_types.specs.Range.{RangeParts}
 use Rattle.ios_reader.specs.declared.item.PrefixEntry.{PrefixEntry as ListEntry}
 use Rattle.policy_program.specs.Plan.{ranges_at, ranges_named}
-
-abbrev pub Lists : Type 0
-Lists = BTreeMap (Bor (List ℕ)) (Vec RangeParts Global)
+use Rattle.policy_program.specs.Planned.{Lists}
 
 abbrev pub Updated : List ℕ → Lists → Lists → Option (Vec RangeParts Global) → Type 0
 Updated name m n w = UpdatesBy (λ x y. slice_cmp nat_cmp x.now y.now) (λ k. slice_cmp nat_cmp name k.now) m n w

@@ -14,7 +14,7 @@ use Rattle.route_types.specs.contracts.range.PrefixRangePartialEq.TheImpl.{eq-va
 use Rattle.policy_program.specs.Plan.{ranges_at}
 use Rattle.policy_program.specs.Steps.{contents}
 use Rattle.policy_program.specs.Sets.{GrowsBy, place_at, ArePlaces}
-use Rattle.policy_program.proofs.Lists.{Lists}
+use Rattle.policy_program.specs.Planned.{Lists}
 use Rattle.policy_program.proofs.RangeEq.{ranges_eq}
 
 abbrev pub Places : Type 0
