@@ -9,6 +9,8 @@ mod rpl_text;
 mod run;
 mod sets;
 mod status;
+#[cfg(test)]
+mod tests;
 mod translate;
 mod write;
 
