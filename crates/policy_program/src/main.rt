@@ -12,6 +12,8 @@ mod rpl_text;
 mod run;
 mod sets;
 mod status;
+#[cfg(test)]
+mod tests;
 mod translate;
 mod write;
 
