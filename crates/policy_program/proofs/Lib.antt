@@ -15,3 +15,4 @@ pub mod Told
 pub mod Ended
 pub mod Right
 pub mod RunExamples
+pub mod Endings
