@@ -583,3 +583,13 @@ fn longer_source(rt: HostRuntime) -> Result<(), Fail> {
     assert_eq!(rt; Status::TooLong.number(), 7);
     Ok(())
 }
+
+#[test]
+fn longest_source(rt: HostRuntime) -> Result<(), Fail> {
+    let text = vec![in rt.alloc(); b'\n'; 16_777_216]?;
+    let words = ten("IN", "M", "in.cfg");
+    let longest = unfailing(words.as_slice(), "in.cfg", text.as_slice());
+    let line = b"in.cfg: no policy IN\n";
+    assert!(rt; ends(rt.alloc(), &longest, Status::NoPolicy, b"", line));
+    Ok(())
+}
