@@ -1,20 +1,19 @@
 -- From how the layers of a run end to how the run ends.
-use Rattle.std.proofs.Common.{◌≡◌, inl, inr, sym, subst, ℕ, List, Ok, Err, Vec}
-use Rattle.std.specs.declared.alloc.Global.{Global}
+use Rattle.std.proofs.Common.{◌≡◌, inl, inr, sym, subst, ℕ, List, Ok, Err}
 use Rattle.policy_outside.specs.declared.faults.FetchFault.{FetchFault}
 use Rattle.policy_outside.specs.declared.faults.FetchFault.TheVariants.{Failed, TooLong as LongFault, Memory as MemoryFault}
-use Rattle.policy_outside.specs.Shelf.{Fetches}
+use Rattle.policy_outside.specs.Shelf.{Fetched, Fetches}
 use Rattle.policy_program.specs.Command.{Request, Accepts}
 use Rattle.policy_program.specs.Translated.{Answer, Translates}
 use Rattle.policy_program.specs.Ends.{Shelves, Sinks, IsSource, NoFault, ReceivedNothing, ReceivedLine, EndsAs, most_bytes}
 use Rattle.policy_program.specs.Unfetched.{fault_status, fault_line}
-use Rattle.policy_program.specs.Layers.{AnswersAs, TellsAs}
+use Rattle.policy_program.specs.Layers.{TellsAs, TellsFetch, FetchesAndAnswers}
 use Rattle.policy_program.specs.declared.translate.Refusal.TheVariants.{NoPolicy as NoPolicyThere, Outside as OutsideProfile, Memory as NoMemory}
 use Rattle.policy_program.specs.declared.status.Status.{Status}
 use Rattle.policy_program.specs.declared.status.Status.TheVariants.{Done, WriteFailed, Memory}
 
 -- a fetch that was at fault
-pub ends_unfetched : (words : List (List ℕ)) (q : Request) (shelf : Shelves) (out err : Sinks) (fault : FetchFault) (status : Status)
+ends_unfetched : (words : List (List ℕ)) (q : Request) (shelf : Shelves) (out err : Sinks) (fault : FetchFault) (status : Status)
     → Accepts words q → Fetches shelf.before shelf.now q.file most_bytes (Err fault)
     → status ≡ fault_status fault → ReceivedNothing out → ReceivedLine err (fault_line q.file fault)
     → EndsAs words shelf out err status
@@ -56,11 +55,18 @@ ends_told words q shelf out err source status (Err NoMemory) accepted no_fault i
     subst (EndsAs words shelf out err) (sym told.0)
     (record { request = q; accepted = accepted; no_fault = no_fault; written = inl told.1; line = told.2 })
 
--- a source that was fetched and answered
-pub ends_answered : (words : List (List ℕ)) (q : Request) (shelf : Shelves) (out err : Sinks) (source : Vec ℕ Global) (status : Status)
-    → Accepts words q → Fetches shelf.before shelf.now q.file most_bytes (Ok source)
-    → AnswersAs q source.items out err status
+-- what came of a fetch was told
+ends_fetched : (words : List (List ℕ)) (q : Request) (shelf : Shelves) (out err : Sinks) (status : Status) (fetched : Fetched)
+    → Accepts words q → Fetches shelf.before shelf.now q.file most_bytes fetched → TellsFetch q out err status fetched
     → EndsAs words shelf out err status
-ends_answered words q shelf out err source status accepted fetched answers =
-    ends_told words q shelf out err source.items status answers.answer accepted fetched.faults_fit
-    (record { told = fetched.told; within = fetched.within }) answers.right answers.told
+ends_fetched words q shelf out err status (Ok source) accepted fetch told =
+    ends_told words q shelf out err source.items status told.answer accepted fetch.faults_fit
+    (record { told = fetch.told; within = fetch.within }) told.right told.told
+ends_fetched words q shelf out err status (Err fault) accepted fetch told =
+    ends_unfetched words q shelf out err fault status accepted fetch told.0 told.1 told.2
+
+-- a request that was answered is how a run of its words ends
+pub ends_request : (words : List (List ℕ)) (q : Request) (shelf : Shelves) (out err : Sinks) (status : Status)
+    → Accepts words q → FetchesAndAnswers q shelf out err status → EndsAs words shelf out err status
+ends_request words q shelf out err status accepted answers =
+    ends_fetched words q shelf out err status answers.fetched accepted answers.fetch answers.told

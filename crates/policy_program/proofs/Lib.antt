@@ -12,6 +12,7 @@ pub mod IosMeaning
 pub mod WholeLaws
 pub mod Spelled
 pub mod Told
-pub mod Endings
 pub mod Ended
 pub mod Right
+pub mod RunExamples
+pub mod Endings

@@ -1,12 +1,10 @@
 -- What maps from the names of lists to ranges hold.
-use Rattle.std.proofs.Common.{◌≡◌, ℕ, Bool, true, false, cond, List, [], ◌∷◌, ◌++◌, Option, Some, None, refl, sym, ap, ◌∙◌, rules, arith}
-use Rattle.std.specs.Prelude.{Vec, bytes_eq, map, filter}
-use Rattle.std.specs.Borrow.{Bor}
+use Rattle.std.proofs.Common.{◌≡◌, ℕ, Bool, true, false, cond, List, [], ◌∷◌, ◌++◌, Option, Some, refl, sym, ap, ◌∙◌}
+use Rattle.std.specs.Prelude.{Vec, bytes_eq}
 use Rattle.std.specs.Option.{option_map_or}
 use Rattle.std.specs.Ordering.{nat_cmp}
 use Rattle.std.specs.Cmp.Lexicographic.{slice_cmp}
-use Rattle.std.specs.BTreeMap.{BTreeMap, get_by, UpdatesBy}
-use Rattle.std.specs.Map.{update}
+use Rattle.std.specs.BTreeMap.{get_by, UpdatesBy}
 use Rattle.std.specs.declared.alloc.Global.{Global}
 use Rattle.std.proofs.lemmas.Slice.Eq.{bytes_eq-Decides}
 use Rattle.std.proofs.lemmas.Map.Text.{btree_map_updates_str}
@@ -14,9 +12,7 @@ use Rattle.std.proofs.lemmas.List.{append-nil}
 use Rattle.route_types.specs.Range.{RangeParts}
 use Rattle.ios_reader.specs.declared.item.PrefixEntry.{PrefixEntry as ListEntry}
 use Rattle.policy_program.specs.Plan.{ranges_at, ranges_named}
-
-abbrev pub Lists : Type 0
-Lists = BTreeMap (Bor (List ℕ)) (Vec RangeParts Global)
+use Rattle.policy_program.specs.Planned.{Lists}
 
 abbrev pub Updated : List ℕ → Lists → Lists → Option (Vec RangeParts Global) → Type 0
 Updated name m n w = UpdatesBy (λ x y. slice_cmp nat_cmp x.now y.now) (λ k. slice_cmp nat_cmp name k.now) m n w

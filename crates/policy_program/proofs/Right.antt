@@ -1,15 +1,13 @@
 -- A text that writes a policy of a source is a right translation of it.
-use Rattle.std.proofs.Common.{◌≡◌, ℕ, List, Option, Some, refl, sym, ap, subst, ◌∙◌}
-use Rattle.route_types.specs.Route.{RouteParts}
+use Rattle.std.proofs.Common.{◌≡◌, ℕ, List, sym, ap, subst, ◌∙◌}
 use Rattle.ios_reader.specs.declared.item.IosItem.{IosItem}
 use Rattle.ios_reader.specs.Tree.{ios_tree}
 use Rattle.ios_reader.specs.Profile as ios
 use Rattle.ios_reader.specs.Meaning.{ios_meaning}
 use Rattle.rpl_reader.specs.declared.item.RplForm.{RplForm}
-use Rattle.rpl_reader.specs.Tree.{rpl_tree, forms}
+use Rattle.rpl_reader.specs.Tree.{rpl_tree}
 use Rattle.rpl_reader.specs.Profile as rpl
 use Rattle.rpl_reader.specs.Meaning.{rpl_meaning}
-use Rattle.rpl_reader.specs.Layout.{policy_text, policy_forms}
 use Rattle.rpl_reader.proofs.ReadBack.{reads_as}
 use Rattle.rpl_reader.proofs.WrittenProfile.{in_profile}
 use Rattle.rpl_reader.proofs.WrittenMeaning.{means_steps}

@@ -1,11 +1,10 @@
 -- Sets keep their places while others are put behind them.
-use Rattle.std.proofs.Common.{◌≡◌, ℕ, zero, suc, Bool, true, false, cond, List, [], ◌∷◌, ◌++◌, Option, Some, None, refl, sym, ap, ◌∙◌, inl, inr, arith}
-use Rattle.std.specs.Prelude.{bytes_eq, slice_get, option_map, Vec, map}
+use Rattle.std.proofs.Common.{◌≡◌, ℕ, zero, suc, Bool, true, false, cond, List, [], ◌∷◌, ◌++◌, Some, refl, sym, ap, ◌∙◌, inl, inr}
+use Rattle.std.specs.Prelude.{bytes_eq, slice_get, option_map}
 use Rattle.std.specs.Borrow.{Bor}
 use Rattle.std.specs.Ordering.{nat_cmp}
 use Rattle.std.specs.Cmp.Lexicographic.{slice_cmp, pointwise}
 use Rattle.std.specs.BTreeMap.{BTreeMap, UpdatesBy}
-use Rattle.std.specs.declared.alloc.Global.{Global}
 use Rattle.std.proofs.lemmas.Slice.Eq.{bytes_eq-Decides}
 use Rattle.std.proofs.lemmas.Option.{slice_get-map}
 use Rattle.std.proofs.lemmas.Map.Text.{btree_map_updates_str}
@@ -14,7 +13,7 @@ use Rattle.route_types.specs.contracts.range.PrefixRangePartialEq.TheImpl.{eq-va
 use Rattle.policy_program.specs.Plan.{ranges_at}
 use Rattle.policy_program.specs.Steps.{contents}
 use Rattle.policy_program.specs.Sets.{GrowsBy, place_at, ArePlaces}
-use Rattle.policy_program.proofs.Lists.{Lists}
+use Rattle.policy_program.specs.Planned.{Lists}
 use Rattle.policy_program.proofs.RangeEq.{ranges_eq}
 
 abbrev pub Places : Type 0

@@ -1,20 +1,18 @@
 -- The text of a policy's ordered entries over its lists writes the policy.
-use Rattle.std.proofs.Common.{◌≡◌, ◌≤◌, ◌<◌, ◌^◌, ℕ, length, get_or, List, [], ◌∷◌, refl, sym, ap, subst, ◌∙◌, arith}
-use Rattle.std.specs.Prelude.{map}
+use Rattle.std.proofs.Common.{◌≡◌, ◌<◌, ◌^◌, ℕ, length, get_or, List, [], ◌∷◌, sym, ap, subst, ◌∙◌, arith}
 use Rattle.std.specs.List.{list_any, AllByRecursion}
 use Rattle.std.specs.List.Sorted.{IsPermutation, IsNonDecreasingBy}
 use Rattle.std.proofs.lemmas.List.Sorted.{IsNonDecreasingBy-short, IsNonDecreasingBy-from_default, All-permutation}
 use Rattle.std.proofs.lemmas.List.Elements.{All-from_recursion, recursion_from_All}
 use Rattle.std.proofs.lemmas.List.{get_or-map, length-map}
-use Rattle.route_types.specs.Range.{RangeParts, in_range}
-use Rattle.route_types.specs.Route.{RouteParts}
+use Rattle.route_types.specs.Range.{in_range}
 use Rattle.ios_reader.specs.Profile.{InProfile}
-use Rattle.ios_reader.specs.Meaning.{Entry, entries_of, list_ranges}
+use Rattle.ios_reader.specs.Meaning.{Entry, entries_of}
 use Rattle.ios_reader.specs.declared.item.IosItem.{IosItem}
 use Rattle.ios_reader.specs.declared.item.PrefixEntry.{PrefixEntry as ListEntry}
 use Rattle.rpl_reader.specs.Written.{IsPlainRange}
 use Rattle.policy_program.specs.declared.plan.PlainEntry.{PlainEntry}
-use Rattle.policy_program.specs.Plan.{Plain, IsPlainForm, HasPlainForm, plain_entry, plain_entries, entry_view, entry_views, ranges_at, ranges_named, list_entries}
+use Rattle.policy_program.specs.Plan.{Plain, IsPlainForm, HasPlainForm, plain_entries, entry_view, entry_views, ranges_at, ranges_named, list_entries}
 use Rattle.policy_program.specs.Planned.{Lists, HavePreferences, IsTextOf}
 use Rattle.policy_program.specs.Written.{Writes}
 use Rattle.policy_program.proofs.Ranges.{ranges_any, ranges_plain}

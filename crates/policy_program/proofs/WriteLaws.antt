@@ -1,5 +1,5 @@
 -- Planned steps can be written, and mean what the entries mean.
-use Rattle.std.proofs.Common.{◌≡◌, ◌<◌, ◌^◌, ℕ, zero, suc, Bool, true, false, length, List, [], ◌∷◌, Option, Some, None, refl, sym, ap, subst, ◌∙◌, arith}
+use Rattle.std.proofs.Common.{◌≡◌, ◌<◌, ◌^◌, ℕ, suc, Bool, true, false, length, List, [], ◌∷◌, Option, Some, None, refl, sym, ap, subst, ◌∙◌, arith}
 use Rattle.std.specs.Prelude.{slice_get, map, unwrap_or, IfSome}
 use Rattle.std.specs.List.{list_any, AllByRecursion}
 use Rattle.std.specs.Borrow.{Bor}
@@ -17,7 +17,7 @@ use Rattle.ios_reader.specs.Meaning.{list_ranges}
 use Rattle.rpl_reader.specs.Layout.{Step}
 use Rattle.rpl_reader.specs.Written.{IsPlainRange, IsPlainStep, guard_holds, step_outcome, steps_outcome}
 use Rattle.policy_program.specs.Plan.{Plain, ranges_at, plain_holds, plain_outcome, first_outcome}
-use Rattle.policy_program.specs.Planned.{Lists, SameActions, IsGuard, Plans, AreRangesOf, HavePreferences}
+use Rattle.policy_program.specs.Planned.{Lists, SameActions, Plans, AreRangesOf, HavePreferences}
 
 pub all_by_place : {A : Type 0} (P : A → Type 0) (xs : List A) → ((p : ℕ) (x : A) → slice_get xs p ≡ Some x → P x) → AllByRecursion P xs
 all_by_place P [] at = tt

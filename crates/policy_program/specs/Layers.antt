@@ -1,10 +1,12 @@
--- How the layers of a run end: writing a finished text, and answering a request for a source.
+-- How the layers of a run end: writing a finished text, answering a request whose source is at hand, and fetching it.
 use Rattle.std.specs.Prelude.{◌≡◌, ℕ, List, Ok, Err}
+use Rattle.policy_outside.specs.Shelf.{Fetched, Fetches}
 use Rattle.policy_program.specs.Command.{Request}
 use Rattle.policy_program.specs.Translated.{Answer, Translates}
 use Rattle.policy_program.specs.Lines.{unwritten_line, memory_line}
 use Rattle.policy_program.specs.Refused.{refusal_status, refusal_line}
-use Rattle.policy_program.specs.Ends.{Sinks, ReceivedNothing, Received, ReceivedPrefix, ReceivedLine, FaultsRose, ShortagesRose}
+use Rattle.policy_program.specs.Unfetched.{fault_status, fault_line}
+use Rattle.policy_program.specs.Ends.{most_bytes, Shelves, Sinks, ReceivedNothing, Received, ReceivedPrefix, ReceivedLine, FaultsRose, ShortagesRose}
 use Rattle.policy_program.specs.declared.status.Status.{Status}
 use Rattle.policy_program.specs.declared.status.Status.TheVariants.{Done, Same, Differ, Usage, Broken, NoPolicy, Outside, Inexpressible, FetchFailed, TooLong, WriteFailed, Memory, RouteRefused}
 
@@ -34,3 +36,14 @@ pub record AnswersAs (q : Request) (source : List ℕ) (out err : Sinks) (status
   pub answer : Answer
   pub right : Translates source q.policy q.name answer
   pub told : TellsAs q source out err status answer
+
+-- what stands with the status of telling what a fetch answered: a source is answered, a fault is one line on `err`
+abbrev pub TellsFetch : Request → Sinks → Sinks → Status → Fetched → Type 0
+TellsFetch q out err status (Ok source) = AnswersAs q source.items out err status
+TellsFetch q out err status (Err fault) = (status ≡ fault_status fault) × ReceivedNothing out × ReceivedLine err (fault_line q.file fault)
+
+-- the source of a request was fetched, and what came of it told
+pub record FetchesAndAnswers (q : Request) (shelf : Shelves) (out err : Sinks) (status : Status) : Type 0 where
+  pub fetched : Fetched
+  pub fetch : Fetches shelf.before shelf.now q.file most_bytes fetched
+  pub told : TellsFetch q out err status fetched

@@ -1,6 +1,6 @@
 -- How a route-map is taken for writing: its entries as plain ones, in order of their numbers.
-use Rattle.std.specs.Prelude.{◌≡◌, ℕ, ◌<◌, ◌^◌, Bool, true, false, List, [], ◌∷◌, Option, Some, None, map, option_map, slice_get, length, bytes_eq, filter}
-use Rattle.std.specs.List.{AllByRecursion, list_any}
+use Rattle.std.specs.Prelude.{◌≡◌, ℕ, ◌<◌, ◌^◌, Bool, true, false, List, [], ◌∷◌, Option, Some, None, map, option_map, length, bytes_eq, filter}
+use Rattle.std.specs.List.{list_any}
 use Rattle.std.specs.Prelude.{Vec}
 use Rattle.std.specs.Borrow.{Bor}
 use Rattle.std.specs.Option.{option_map_or}
@@ -8,7 +8,6 @@ use Rattle.std.specs.Ordering.{nat_cmp}
 use Rattle.std.specs.Cmp.Lexicographic.{slice_cmp}
 use Rattle.std.specs.BTreeMap.{BTreeMap, get_by}
 use Rattle.std.specs.declared.alloc.Global.{Global}
-use Rattle.route_types.specs.Names.{first_some}
 use Rattle.route_types.specs.Range.{RangeParts, in_range}
 use Rattle.route_types.specs.Route.{RouteParts}
 use Rattle.route_types.specs.Change.{changed_by}

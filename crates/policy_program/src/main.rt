@@ -1,4 +1,7 @@
-//! The command-line program.
+//! The command-line program: `translate` writes a route-map of an IOS source as a policy in RPL.
+//! From the outside in: `main`, `run` and its layers (run), the words (command), the lines on standard
+//! error (lines, place), the translation (translate), and what it stands on (plan, rpl_text).
+//! Its definitions are in `specs/`: `Headline`, `Complete`, `Exact` and `Ends` say what `run` does.
 #![tactic(auto)]
 
 mod command;
@@ -9,6 +12,8 @@ mod rpl_text;
 mod run;
 mod sets;
 mod status;
+#[cfg(test)]
+mod tests;
 mod translate;
 mod write;
 
@@ -45,7 +50,10 @@ fn main(rt: HostRuntime) -> ExitCode {
             &mut err,
         ),
         Err(WordsFault::NoText) => run(rt.alloc(), &[], &mut shelf, &mut out, &mut err),
-        Err(WordsFault::Memory) => Status::Memory,
+        Err(WordsFault::Memory) => {
+            lines::tell_memory(&mut err);
+            Status::Memory
+        }
     };
     ExitCode::from(status.number())
 }

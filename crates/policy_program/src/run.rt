@@ -1,9 +1,8 @@
 // A run of the program: from its words to its status.
-ghost use Rattle.std.specs.Prelude.{◌≡◌, true, ℕ, List, map};
+ghost use Rattle.std.specs.Prelude.{◌≡◌, true, map};
 ghost use Rattle.std.specs.String.{string_bytes};
 ghost use Rattle.policy_outside.specs.Shelf.{Fetches};
 ghost use Rattle.rpl_reader.specs.Written.{is_new_name};
-ghost use Rattle.policy_program.specs.Command.{Accepts};
 ghost use Rattle.policy_program.specs.Spelled.{request_view};
 ghost use Rattle.policy_program.specs.Ends.{ReceivedLine, EndsAs, most_bytes};
 ghost use Rattle.policy_program.specs.Lines.{usage_line};
@@ -12,7 +11,7 @@ ghost use Rattle.policy_program.specs.Exact.{IsExact};
 ghost use Rattle.policy_program.specs.Complete.{IsComplete};
 ghost use Rattle.policy_program.specs.Refused.{refusal_status, refusal_line};
 ghost use Rattle.policy_program.specs.Unfetched.{fault_status, fault_line};
-ghost use Rattle.policy_program.specs.Layers.{WritesAs, AnswersAs};
+ghost use Rattle.policy_program.specs.Layers.{WritesAs, AnswersAs, FetchesAndAnswers};
 
 use crate::command::{Request, read_words};
 use crate::lines::{
@@ -90,7 +89,7 @@ fn answer_request<S: Shelf, O: Sink, E: Sink>(
     err: &mut E,
 ) -> Status
     requires { is_new_name request.now.name.now ≡ true }
-    ensures { (words : List (List ℕ)) → Accepts words (request_view request.now) → EndsAs words
+    ensures { FetchesAndAnswers (request_view request.now)
         (record { before = S.seen shelf.old; now = S.seen shelf.new })
         (record { before = O.seen out.old; now = O.seen out.new })
         (record { before = E.seen err.old; now = E.seen err.new }) result }

@@ -1,4 +1,4 @@
-use Rattle.std.proofs.Common.{◌∙◌, ◌^◌, ◌<◌, length, arith, rules, refl}
+use Rattle.std.proofs.Common.{◌∙◌, ◌^◌, ◌<◌, length, rules, refl}
 use Rattle.policy_program.specs.Steps.{contents, steps_of}
 use Rattle.policy_program.specs.Plan.{entry_views}
 use Rattle.policy_program.proofs.WriteLaws.{plain_sets, plain_steps, steps_below, contents_few}

@@ -1,4 +1,3 @@
-use Rattle.std.proofs.Common.{ap, ◌∙◌, rules}
 use Rattle.std.specs.Prelude.{map}
 use Rattle.policy_program.specs.Plan.{entry_views}
 use Rattle.policy_program.proofs.WholeLaws.{plain_lists, ordered_preferences, ordered_views, writes}
