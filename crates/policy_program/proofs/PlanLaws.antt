@@ -10,7 +10,7 @@ use Rattle.policy_program.specs.Steps.{step_of, steps_of}
 use Rattle.policy_program.specs.declared.plan.PlainEntry.{PlainEntry}
 use Rattle.policy_program.specs.declared.rpl_text.Step.{Step as Made}
 use Rattle.policy_program.specs.Sets.{GrowsBy}
-use Rattle.policy_program.specs.Planned.{Lists, SameActions, IsGuard, Plans, AreRangesOf}
+use Rattle.policy_program.specs.Planned.{Lists, SameActions, IsGuard, Plans, AreRangesOf, counting}
 use Rattle.policy_program.proofs.SetLaws.{stays}
 
 -- each set stays at its place
@@ -78,7 +78,7 @@ views_apart (x ∷ xs) e h at =
 
 -- one more step of the loop
 pub loop_step : (lists : Lists) (before now : List (List RangeParts)) (steps : List Made) (more : List Made) (s : Made) (rest : List PlainEntry) (e : PlainEntry) (all : List Plain) (name : Bor (List ℕ)) (place : ℕ)
-    → 1 ≤ length rest → e ≡ get_or rest 0 e → e.guard ≡ Some name → step_of s ≡ record { guard = Some place; preferences = e.preferences.items; accept = e.permit } → more ≡ steps ++ s ∷ []
+    → 1 ≤ length rest → e ≡ get_or rest 0 e → e.guard ≡ Some name → step_of s ≡ record { guard = Some place; preferences = counting (entry_view e); accept = e.permit } → more ≡ steps ++ s ∷ []
     → slice_get now place ≡ Some (ranges_at lists name.now) → GrowsBy before now (ranges_at lists name.now)
     → GoesOn lists before (steps_of steps) (entry_views rest) all → GoesOn lists now (steps_of more) (entry_views (take (length rest - 1) (drop 1 rest))) all
 loop_step lists before now steps more s rest e all name place long at guard made pushed set grows so_far =

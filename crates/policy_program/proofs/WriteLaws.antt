@@ -1,6 +1,6 @@
 -- Planned steps can be written, and mean what the entries mean.
 use Rattle.std.proofs.Common.{◌≡◌, ◌<◌, ◌^◌, ℕ, suc, Bool, true, false, length, List, [], ◌∷◌, Option, Some, None, refl, sym, ap, subst, ◌∙◌, arith}
-use Rattle.std.specs.Prelude.{slice_get, map, unwrap_or, IfSome}
+use Rattle.std.specs.Prelude.{if◌then◌else◌, slice_get, map, unwrap_or, IfSome}
 use Rattle.std.specs.List.{list_any, AllByRecursion}
 use Rattle.std.specs.Borrow.{Bor}
 use Rattle.std.proofs.lemmas.List.{length-map}
@@ -31,6 +31,10 @@ plain_sets lists sets of plain = all_by_place (AllByRecursion IsPlainRange) sets
 place_within : (sets : List (List RangeParts)) (guard : Option ℕ) (place : ℕ) (x : List RangeParts) → guard ≡ Some place → slice_get sets place ≡ Some x → IfSome guard (λ p. p < length sets)
 place_within sets guard place x guards at = subst (λ g. IfSome g (λ p. p < length sets)) (sym guards) (slice_get_within sets place x at)
 
+counting_fit : (permit : Bool) (ns : List ℕ) → AllByRecursion (λ n. n < 2 ^ 32) ns → AllByRecursion (λ n. n < 2 ^ 32) (if permit then ns else [])
+counting_fit true ns fit = fit
+counting_fit false ns fit = tt
+
 -- the steps can be written
 pub plain_steps : (lists : Lists) (sets : List (List RangeParts)) (steps : List Step) (es : List Plain) → Plans lists sets steps es → HavePreferences es → AllByRecursion (IsPlainStep (length sets)) steps
 plain_steps lists sets [] [] planned fit = tt
@@ -39,7 +43,7 @@ plain_steps lists sets [] (e ∷ es) planned fit = absurd planned
 plain_steps lists sets (s ∷ ss) (e ∷ es) planned fit = go (λ p. plain_steps lists sets ss es p fit.1) e.guard refl
   where
     preferences : AllByRecursion (λ n. n < 2 ^ 32) s.preferences
-    preferences = subst (AllByRecursion (λ n. n < 2 ^ 32)) (sym planned.0.preferences) fit.0
+    preferences = subst (AllByRecursion (λ n. n < 2 ^ 32)) (sym planned.0.preferences) (counting_fit e.permit e.preferences fit.0)
 
     go : (Plans lists sets ss es → AllByRecursion (IsPlainStep (length sets)) ss) → (g : Option (List ℕ)) → e.guard ≡ g → IsPlainStep (length sets) s × AllByRecursion (IsPlainStep (length sets)) ss
     go tail None h =
@@ -60,8 +64,12 @@ HoldAlike lists all r = (q : List ℕ) → list_any (λ range. in_range range r.
 abbrev made : RouteParts → Bool → List ℕ → Outcome
 made r b ns = elim b [ true ↦ Accept (changed_by (map LocalPreference ns) r) | false ↦ Reject ]
 
+counted : (r : RouteParts) (permit : Bool) (ns : List ℕ) → made r permit (if permit then ns else []) ≡ made r permit ns
+counted r true ns = refl
+counted r false ns = refl
+
 same_step : (r : RouteParts) (s : Step) (e : Plain) → SameActions s e → step_outcome r s ≡ plain_outcome r e
-same_step r s e same = ap (λ (b : Bool). made r b s.preferences) same.accept ∙ ap (λ (ns : List ℕ). made r e.permit ns) same.preferences
+same_step r s e same = ap (λ (b : Bool). made r b s.preferences) same.accept ∙ ap (λ (ns : List ℕ). made r e.permit ns) same.preferences ∙ counted r e.permit e.preferences
 
 abbrev pick : Bool → Outcome → Outcome → Outcome
 pick b x y = elim b [ true ↦ x | false ↦ y ]

@@ -61,7 +61,7 @@ NoFault shelf = SameFaults shelf.before shelf.now
 -- the words are refused
 pub record EndsInUsage (words : List (List ℕ)) (shelf : Shelves) (out err : Sinks) : Type 0 where
   pub refused : IsRefused words
-  pub shelf_unused : NoFault shelf
+  pub no_fault : NoFault shelf
   pub out_empty : ReceivedNothing out
   pub line : ReceivedLine err usage_line
 

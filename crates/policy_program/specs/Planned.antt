@@ -1,5 +1,5 @@
 -- Steps over sets that say what plain entries do.
-use Rattle.std.specs.Prelude.{◌≡◌, ℕ, ◌<◌, ◌^◌, List, [], ◌∷◌, Option, Some, None, slice_get, Vec}
+use Rattle.std.specs.Prelude.{◌≡◌, ℕ, ◌<◌, ◌^◌, List, [], ◌∷◌, Option, Some, None, slice_get, Vec, if◌then◌else◌}
 use Rattle.std.specs.List.{AllByRecursion}
 use Rattle.std.specs.Borrow.{Bor}
 use Rattle.std.specs.BTreeMap.{BTreeMap}
@@ -13,9 +13,13 @@ use Rattle.policy_program.specs.Plan.{Plain, ranges_at}
 abbrev pub Lists : Type 0
 Lists = BTreeMap (Bor (List ℕ)) (Vec RangeParts Global)
 
+-- what an entry sets counts only where it permits
+abbrev pub counting : Plain → List ℕ
+counting e = if e.permit then e.preferences else []
+
 -- a step does what an entry does behind a guard
 pub record SameActions (s : Step) (e : Plain) : Type 0 where
-  pub preferences : s.preferences ≡ e.preferences
+  pub preferences : s.preferences ≡ counting e
   pub accept : s.accept ≡ e.permit
 
 -- the set at this place has the ranges of the list of this name

@@ -5,7 +5,7 @@ ghost use Rattle.std.specs.List.Sorted.{IsPermutation, IsNonDecreasingBy};
 ghost use Rattle.ios_reader.specs.Profile.{is_line_sort, sort_of_form};
 ghost use Rattle.ios_reader.specs.Meaning.{lines_below, entries_of};
 ghost use Rattle.policy_program.specs.Steps.{step_of, steps_of, contents};
-ghost use Rattle.policy_program.specs.Planned.{Plans, AreRangesOf};
+ghost use Rattle.policy_program.specs.Planned.{Plans, AreRangesOf, counting};
 ghost use Rattle.policy_program.specs.Plan.{guard_of, preferences_of, plain_entry, plain_entries, entry_view, entry_views, list_entries, ranges_named, ranges_at};
 
 use crate::rpl_text::Step;
@@ -20,9 +20,13 @@ use std::collections::BTreeMap;
 /// preferences that it sets.
 #[derive(Debug, Drop)]
 pub struct PlainEntry<'a> {
+    /// The entry's number, which gives its place in the run.
     pub number: u64,
+    /// Whether a route that the guard lets through is accepted.
     pub permit: bool,
+    /// The name of the prefix list that a route's prefix has to be in.
     pub guard: Option<&'a [u8]>,
+    /// The local preferences that its lines set, in their order.
     pub preferences: Vec<u32>,
 }
 
@@ -191,14 +195,21 @@ pub fn ranges_by_list<'a>(
     Ok(lists)
 }
 
-/// A step of an entry behind the set at this place, if there is one.
+/// A step of an entry behind the set at this place, if there is one. A step that rejects sets nothing.
 fn step<'e>(guard: Option<usize>, entry: &'e PlainEntry<'_>) -> Step<'e>
-    ensures { step_of result ≡ record { guard = guard; preferences = entry.now.preferences.items; accept = entry.now.permit } }
+    ensures { step_of result ≡ record { guard = guard; preferences = counting (entry_view entry.now); accept = entry.now.permit } }
 {
+    if entry.permit {
+        return Step {
+            guard,
+            preferences: entry.preferences.as_slice(),
+            accept: true,
+        };
+    }
     Step {
         guard,
-        preferences: entry.preferences.as_slice(),
-        accept: entry.permit,
+        preferences: &[],
+        accept: false,
     }
 }
 

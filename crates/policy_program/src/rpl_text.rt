@@ -11,8 +11,11 @@ use route_types::{Memory, PrefixRange, push_number, push_prefix};
 /// preferences that it sets in their order, and whether it accepts.
 #[derive(Clone, Copy, Debug)]
 pub struct Step<'a> {
+    /// The place of its set, counted from 0.
     pub guard: Option<usize>,
+    /// The local preferences that it sets.
     pub preferences: &'a [u32],
+    /// Whether it accepts a route that its guard lets through, or rejects it.
     pub accept: bool,
 }
 

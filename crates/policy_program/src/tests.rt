@@ -178,6 +178,18 @@ end-policy
 ",
         ),
         (
+            "a deny entry sets nothing",
+            "M",
+            "route-map IN deny 10
+ set local-preference 50
+",
+            "route-policy M
+  drop
+end-policy
+!
+",
+        ),
+        (
             "equal lists share a set",
             "M",
             "ip prefix-list A seq 5 permit 10.0.0.0/8
