@@ -145,7 +145,7 @@ abbrev pub open_lines : List IosForm → List IosItem → List IosForm
 open_lines lines [] = lines
 open_lines lines (i ∷ is) = elim (is_line i) [ true ↦ open_lines (lines ++ i.form ∷ []) is | false ↦ open_lines [] is ]
 
--- the two lines have one form
+-- a `match ip address prefix-list` line
 abbrev pub is_match_prefix : IosForm → Bool
 is_match_prefix (PrefixEntry e) = false
 is_match_prefix (MapHeader h) = false
