@@ -1,19 +1,11 @@
 -- The cut of an IOS text: each line is a statement, and its words are the runs of bytes that are no
 -- blanks. A line without words is dropped, and so is one whose first word starts with `!`.
+pub use Rattle.route_types.specs.ByteWords.{word_of_byte, onto_word}
 use Rattle.std.specs.Prelude.{ℕ, ◌+◌, Bool, true, false, not, ◌==◌, List, [], ◌∷◌, flat_map, map}
 use Rattle.route_types.specs.Text.{is_blank, starts_with_byte, Line, lines_at}
 use Rattle.route_types.specs.declared.statement.Word.{Word}
 use Rattle.route_types.specs.declared.statement.Ender.TheVariants.{Line as EndsLine}
 use Rattle.route_types.specs.declared.statement.Statement.{Statement}
-
--- a word of one byte at place p
-abbrev pub word_of_byte : ℕ → ℕ → Word
-word_of_byte p c = record { text = c ∷ []; quoted = false; span = record { start = p; end = p + 1 } }
-
--- the first word has one more byte in front, at place p
-abbrev pub onto_word : ℕ → ℕ → List Word → List Word
-onto_word p c [] = word_of_byte p c ∷ []
-onto_word p c (w ∷ ws) = record { text = c ∷ w.text; quoted = w.quoted; span = record { start = p; end = w.span.end } } ∷ ws
 
 -- a word goes on here
 abbrev pub goes_on : List ℕ → Bool

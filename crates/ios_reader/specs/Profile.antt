@@ -1,5 +1,6 @@
 -- The profile of an IOS policy: which items it reaches, the four causes, each a test of its own on the
 -- whole tree, and the first fault in text order.
+pub use Rattle.route_types.specs.Names.{is_named}
 use Rattle.std.specs.Prelude.{◌≡◌, ℕ, Bool, true, false, ◌&&◌, not, ◌==◌, List, [], ◌∷◌, ◌++◌, Option, Some, None, bytes_eq}
 use Rattle.std.specs.List.{list_any}
 use Rattle.route_types.specs.Words.{when}
@@ -17,11 +18,6 @@ use Rattle.ios_reader.specs.declared.item.IosItem.{IosItem}
 pub record PolicyParts : Type 0 where
   pub items : List IosItem
   pub names : List (List ℕ)
-
--- the name is this one
-abbrev pub is_named : List ℕ → Option (List ℕ) → Bool
-is_named name None = false
-is_named name (Some other) = bytes_eq name other
 
 -- what a form is
 abbrev pub sort_of_form : IosForm → ItemSort

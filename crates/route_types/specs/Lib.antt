@@ -9,3 +9,4 @@ pub mod Names
 pub mod Bounds
 pub mod Walk
 pub mod Print
+pub mod ByteWords

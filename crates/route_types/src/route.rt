@@ -177,6 +177,8 @@ impl Route {
 /// What a policy answers on a route.
 #[derive(Debug, Drop)]
 pub enum Outcome {
+    /// The route is dropped.
     Reject,
+    /// The route is kept, as changed.
     Accept(Route),
 }

@@ -1,5 +1,6 @@
 -- What 'in profile' asks of an RPL policy: which items it reaches, and the causes, each a test of its
 -- own on the whole tree.
+pub use Rattle.route_types.specs.Names.{is_named}
 use Rattle.std.specs.Prelude.{◌≡◌, ℕ, ◌+◌, ◌-◌, Bool, true, false, ◌&&◌, ◌||◌, not, nat_le, List, [], ◌∷◌, ◌++◌, Option, Some, None, bytes_eq}
 use Rattle.std.specs.List.{list_any}
 use Rattle.route_types.specs.Words.{when}
@@ -11,11 +12,6 @@ use Rattle.rpl_reader.specs.declared.item.BlockKind.TheVariants.{PrefixSet as Pr
 use Rattle.rpl_reader.specs.declared.item.RplForm.{RplForm}
 use Rattle.rpl_reader.specs.declared.item.RplForm.TheVariants.{PrefixSet, Element, RoutePolicy, If, EndIf, SetLocalPreference, Done, Drop, End, Other}
 use Rattle.rpl_reader.specs.declared.item.RplTest.TheVariants.{Destination}
-
--- the name is this one
-abbrev pub is_named : List ℕ → Option (List ℕ) → Bool
-is_named name None = false
-is_named name (Some other) = bytes_eq name other
 
 -- what a header that spells no form would define
 abbrev pub would_open_set : Option BlockKind → Bool

@@ -1,5 +1,6 @@
 -- The words of an RPL line: runs of bytes that are no blanks; a parenthesis or a comma is a word of its
 -- own; `'` opens a quoted word up to the next `'` of the line, and without one it is an ordinary byte.
+pub use Rattle.route_types.specs.ByteWords.{word_of_byte, onto_word}
 use Rattle.std.specs.Prelude.{ℕ, ◌+◌, Bool, true, false, ◌&&◌, ◌||◌, not, ◌==◌, List, [], ◌∷◌}
 use Rattle.std.specs.List.{list_any}
 use Rattle.route_types.specs.Text.{is_blank}
@@ -12,15 +13,6 @@ is_single c = (c == 40) || (c == 41) || (c == 44)
 -- a quote that another one follows in the line
 abbrev pub is_opening : ℕ → List ℕ → Bool
 is_opening c behind = (c == 39) && list_any (λ d. d == 39) behind
-
--- a word of one byte at place p
-abbrev pub word_of_byte : ℕ → ℕ → Word
-word_of_byte p c = record { text = c ∷ []; quoted = false; span = record { start = p; end = p + 1 } }
-
--- the first word has one more byte in front, at place p
-abbrev pub onto_word : ℕ → ℕ → List Word → List Word
-onto_word p c [] = word_of_byte p c ∷ []
-onto_word p c (w ∷ ws) = record { text = c ∷ w.text; quoted = w.quoted; span = record { start = p; end = w.span.end } } ∷ ws
 
 -- the first word begins at place p, with the quote that opens it
 abbrev pub from_quote : ℕ → List Word → List Word
