@@ -1,8 +1,8 @@
 -- The functions that find which form a statement has. `Spelling` says what the forms are.
 pub use Rattle.route_types.specs.Names.{is_mark, is_name, first_some}
 pub use Rattle.route_types.specs.Bounds.{one_bound_in, bounds_in}
-use Rattle.std.specs.Prelude.{ℕ, ◌-◌, ◌^◌, Bool, true, false, ◌&&◌, not, nat_le, ◌==◌, List, [], ◌∷◌, Option, Some, None, codes, bytes_eq}
-use Rattle.std.specs.List.{list_any, list_all}
+use Rattle.std.specs.Prelude.{ℕ, ◌-◌, ◌^◌, Bool, true, false, ◌&&◌, ◌==◌, List, [], ◌∷◌, Option, None, codes, bytes_eq}
+use Rattle.std.specs.List.{list_all}
 use Rattle.route_types.specs.Words.{◌>>=◌, when, is_digit, number_in, prefix_in}
 use Rattle.ios_reader.specs.declared.item.IosForm.{IosForm}
 use Rattle.ios_reader.specs.declared.item.IosForm.TheVariants.{PrefixEntry, MapHeader, MatchPrefix, SetLocalPreference}

@@ -1,6 +1,6 @@
 -- What the laws of the cut speak of: a line as it stands before its LF, and the span of a statement.
 pub use Rattle.route_types.specs.Text.{without_return as line_bytes}
-use Rattle.std.specs.Prelude.{ℕ, true, false, ◌==◌, List, [], ◌∷◌, Option, Some, None}
+use Rattle.std.specs.Prelude.{true, false, List, [], ◌∷◌, Option, Some, None}
 use Rattle.route_types.specs.Text.{starts_with_byte}
 use Rattle.route_types.specs.declared.statement.Span.{Span}
 use Rattle.route_types.specs.declared.statement.Word.{Word}
