@@ -1,43 +1,63 @@
 -- Worked examples that the checker computes.
-use Rattle.std.proofs.Common.{◌≡◌, refl, List, [], ◌∷◌, ◌++◌, ℕ, true}
-use Rattle.std.specs.Prelude.{None, codes, map}
+use Rattle.std.proofs.Common.{◌≡◌, refl, List, [], ◌∷◌, ◌++◌, ℕ, true, false, Option}
+use Rattle.std.specs.Prelude.{Some, None, codes, map}
 use Rattle.route_types.specs.Text.{lines_at}
-use Rattle.route_types.specs.Words.{number_in, prefix_in, parts_at, address_in}
-use Rattle.route_types.specs.Route.{RouteParts}
-use Rattle.route_types.specs.declared.address.Family.TheVariants.{V4}
-use Rattle.route_types.specs.declared.route.NextHop.TheVariants.{Own}
-use Rattle.route_types.specs.declared.route.Origin.TheVariants.{Igp}
-use Rattle.route_types.specs.declared.route.Outcome.TheVariants.{Reject, Accept}
-use Rattle.ios_reader.specs.Cut.{ios_cut, words_at}
-use Rattle.ios_reader.specs.Forms.{prefix_entry_in, map_header_in, match_prefix_in, set_local_preference_in}
-use Rattle.ios_reader.specs.Tree.{ios_tree, items_of, form_of}
-use Rattle.ios_reader.specs.Profile.{first_fault}
-use Rattle.ios_reader.specs.Meaning.{ios_meaning}
-use Rattle.ios_reader.specs.declared.item.IosForm.TheVariants.{PrefixEntry, MapHeader, MatchPrefix, SetLocalPreference}
+use Rattle.route_types.specs.Words.{number_in, prefix_in, parts_at, address_in, community_in}
+use Rattle.policy_text.specs.IosCut.{ios_cut, words_at}
+use Rattle.policy_text.specs.Phrases.{after, each}
+use Rattle.ios_reader.specs.Forms.{prefix_list_in, map_header_in, match_prefix_in, match_next_hop_in, match_community_in, match_metric_in, match_line_in, set_value_in, set_list_in, set_local_preference_in, set_metric_in, set_weight_in, set_origin_in, set_next_hop_in, set_prepend_in, set_community_in, line_in}
+use Rattle.ios_reader.specs.Names.{list_name, community_word_in, shape_in}
+use Rattle.ios_reader.specs.Tree.{ios_tree, items_of, form_of, numbered_from}
+use Rattle.ios_reader.specs.declared.item.IosForm.{IosForm}
+use Rattle.ios_reader.specs.declared.item.IosForm.TheVariants.{PrefixEntry, PrefixDescription, CommunityEntry, MapHeader, Line, Other}
+use Rattle.ios_reader.specs.declared.item.MapLine.TheVariants.{MatchCommunity, SetCommunity}
 
-abbrev sample : List ℕ
-sample = codes "ip prefix-list PL seq 5 permit 10.0.0.0/8 le 24" ++ (10 ∷ codes "route-map IN permit 10" ++ (10 ∷ codes " match ip address prefix-list PL" ++ (10 ∷ codes " set local-preference 200" ++ (10 ∷ []))))
+-- the number of an entry of a prefix list
+abbrev number : IosForm → Option ℕ
+number (PrefixEntry e) = Some e.number
+number (PrefixDescription d) = None
+number (CommunityEntry e) = None
+number (MapHeader h) = None
+number (Line l) = None
+number (Other o) = None
 
-abbrev route : ℕ → ℕ → RouteParts
-route bits length = record { prefix = record { address = record { family = V4; bits = bits }; length = length }; next_hop = Own; path = 65001 ∷ []; origin = Igp; local_preference = 100; med = 0; weight = 0; communities = [] }
+-- two entries get numbers, behind one that has its own
+lists : List ℕ
+lists = codes "ip prefix-list A permit 10.0.0.0/8" ++ (10 ∷ codes "ip prefix-list A seq 7 deny 10.0.0.0/9 le 24" ++ (10 ∷ codes "ip prefix-list A permit 10.0.0.0/9"))
 
-reads : map (λ i. i.form) (ios_tree sample) ≡
-    PrefixEntry (record { list = codes "PL"; number = 5; range = record { prefix = record { address = record { family = V4; bits = 167772160 }; length = 8 }; least = 8; most = 24 } })
-    ∷ MapHeader (record { map = codes "IN"; permit = true; number = 10 })
-    ∷ MatchPrefix (codes "PL" ∷ [])
-    ∷ SetLocalPreference 200 ∷ []
-unfolding ios_tree ios_cut items_of form_of words_at lines_at prefix_entry_in map_header_in match_prefix_in set_local_preference_in number_in prefix_in parts_at address_in
+given : map (λ i. number i.form) (ios_tree lists) ≡ Some 5 ∷ Some 7 ∷ Some 12 ∷ []
+unfolding lists ios_tree ios_cut items_of form_of numbered_from words_at lines_at prefix_list_in after number_in prefix_in parts_at address_in
+given = refl
+
+-- a map's entry with its lines; a line where no entry is open belongs to nothing
+entry : List ℕ
+entry = codes "set metric 5" ++ (10 ∷ codes "route-map IN permit 10" ++ (10 ∷ codes " match community A exact-match" ++ (10 ∷ codes "set community 65001:1 no-export additive")))
+
+reads : map (λ i. i.form) (ios_tree entry) ≡
+    MapHeader (record { map = codes "IN"; permit = true; number = 10 })
+    ∷ Line (MatchCommunity (record { lists = codes "A" ∷ []; exact = true }))
+    ∷ Line (SetCommunity (record { communities = record { 0 = 4259905537 } ∷ record { 0 = 4294967041 } ∷ []; additive = true }))
+    ∷ []
+unfolding entry ios_tree ios_cut items_of form_of numbered_from words_at lines_at map_header_in line_in match_line_in match_prefix_in match_next_hop_in match_community_in match_metric_in set_value_in set_local_preference_in set_metric_in set_weight_in set_origin_in set_next_hop_in set_list_in set_prepend_in set_community_in after each number_in parts_at community_in
 reads = refl
 
--- 10.1.0.0/16 gets local preference 200, and 10.0.0.0/25 is rejected
-accepts : ios_meaning (ios_tree sample) (codes "IN") (route 167837696 16) ≡ Accept (record (route 167837696 16) { local_preference = 200 })
-unfolding ios_meaning ios_tree ios_cut items_of form_of words_at lines_at prefix_entry_in map_header_in match_prefix_in set_local_preference_in number_in prefix_in parts_at address_in
-accepts = refl
+-- `exact-match` alone behind the keyword is a name
+only_name : line_in (codes "match" ∷ codes "community" ∷ codes "exact-match" ∷ []) ≡ Some (MatchCommunity (record { lists = codes "exact-match" ∷ []; exact = false }))
+unfolding line_in match_line_in match_prefix_in match_next_hop_in match_community_in after each
+only_name = refl
 
-rejects : ios_meaning (ios_tree sample) (codes "IN") (route 167772160 25) ≡ Reject
-unfolding ios_meaning ios_tree ios_cut items_of form_of words_at lines_at prefix_entry_in map_header_in match_prefix_in set_local_preference_in number_in prefix_in parts_at address_in
-rejects = refl
+-- a number of 32 bits is a community's bits
+bits : community_word_in (codes "4259905537") ≡ community_word_in (codes "65001:1")
+unfolding number_in parts_at community_in
+bits = refl
 
-sound : first_fault (codes "IN") (ios_tree sample) ≡ None
-unfolding first_fault ios_tree ios_cut items_of form_of words_at lines_at prefix_entry_in map_header_in match_prefix_in set_local_preference_in number_in prefix_in parts_at address_in
-sound = refl
+by_number : list_name (codes "0010") ≡ list_name (codes "10")
+by_number = refl
+
+shape : shape_in (codes "_65001:[0-9]+_") ≡ Some (record { high_least = 65001; high_most = 65001; low_least = 0; low_most = 65535 })
+unfolding shape_in parts_at number_in
+shape = refl
+
+no_shape : shape_in (codes "65001:[0-9]+_") ≡ None
+unfolding shape_in parts_at number_in
+no_shape = refl

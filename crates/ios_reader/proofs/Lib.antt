@@ -1,10 +1,21 @@
+-- What the checker computes, and the laws that the answers cite.
 mod Examples
-pub mod OneMatch
-pub mod Sound
-pub mod Named
-pub mod Walk
 pub mod Zeros
-pub mod Rise
-pub mod Sets
-pub mod FirstFault
+pub mod Options
+pub mod Begins
+pub mod WordsSpelled
+pub mod ListsSpelled
+pub mod CommunitiesSpelled
+pub mod OptionsSpelled
+pub mod LinesSpelled
+pub mod LinesFound
 pub mod Spelled
+pub mod Numbers
+pub mod Rise
+pub mod Booleans
+pub mod Sets
+pub mod Settings
+pub mod Places
+pub mod TrueFault
+pub mod FirstFault
+pub mod Fewer

@@ -3,11 +3,12 @@ use Rattle.std.proofs.Common.{◌≡◌, refl, sym, subst, ℕ, ◌+◌, ◌<◌
 use Rattle.std.specs.Prelude.{flat_map, ◌==◌, IfOk}
 use Rattle.std.proofs.lemmas.List.Concat.{flat_map-cons}
 use Rattle.route_types.specs.Text.{is_blank, starts_with_byte, Line, lines_at, starting_at, onto_line}
-use Rattle.route_types.specs.declared.statement.Word.{Word}
-use Rattle.route_types.specs.declared.statement.Statement.{Statement}
-use Rattle.route_types.specs.declared.statement.Ender.TheVariants.{Line as EndsLine}
-use Rattle.ios_reader.specs.Cut.{words_at, onto_word, word_of_byte, goes_on, end_of, depth_of, statement_of, statement_of_words, ios_cut, texts}
-use Rattle.ios_reader.specs.Tree.{sort_of, belongs, opens, form_of, items_of, ios_tree}
+use Rattle.policy_text.specs.declared.statement.Word.{Word}
+use Rattle.policy_text.specs.declared.statement.Statement.{Statement}
+use Rattle.policy_text.specs.declared.statement.Ender.TheVariants.{Line as EndsLine}
+use Rattle.policy_text.specs.IosCut.{words_at, onto_word, word_of_byte, goes_on, end_of, depth_of, statement_of, statement_of_words, ios_cut}
+use Rattle.policy_text.specs.Phrases.{texts}
+use Rattle.ios_reader.specs.Tree.{sort_of, belongs, opens, form_of, items_of, numbered_item, numbered_from, ios_tree}
 use Rattle.ios_reader.specs.Spans.{RiseFrom, SpansRise}
 use Rattle.ios_reader.specs.declared.item.ItemSort.{ItemSort}
 use Rattle.ios_reader.specs.declared.item.IosItem.{IosItem}
@@ -124,9 +125,17 @@ unfolding items_of
 items_rise p end entry_open [] h = h
 items_rise p end entry_open (s ∷ ss) h = sort_rises p end entry_open s ss (sort_of s.depth (texts s.words)) h (λ o. items_rise s.span.end end o ss h.2)
 
+-- numbering keeps the spans
+numbered_rise : (p end : ℕ) (before is : List IosItem) → RiseFrom p end is → RiseFrom p end (numbered_from before is)
+unfolding numbered_from
+numbered_rise p end before [] h = h
+numbered_rise p end before (i ∷ is) h = (h.0, h.1, numbered_rise i.span.end end (before ++ numbered_item before i ∷ []) is h.2)
+
 pub tree_rises : (text : List ℕ) → SpansRise (length text) (ios_tree text)
 unfolding ios_tree ios_cut
-tree_rises text = items_rise 0 (length text) false (flat_map statement_of (lines_at 0 text)) (cut_rises 0 (length text) (lines_at 0 text) (lines_rise 0 (length text) text (omega arith)))
+tree_rises text =
+    numbered_rise 0 (length text) [] (items_of false (flat_map statement_of (lines_at 0 text)))
+    (items_rise 0 (length text) false (flat_map statement_of (lines_at 0 text)) (cut_rises 0 (length text) (lines_at 0 text) (lines_rise 0 (length text) text (omega arith))))
 
 -- a text's tree that was made
 pub read_rises : {E : Type 0} (text : List ℕ) (r : Result (List IosItem) E) → IfOk r (λ t. t ≡ ios_tree text) → IfOk r (λ t. SpansRise (length text) t)

@@ -1,6 +1,6 @@
 -- The zeros in front of a list's number.
 use Rattle.std.proofs.Common.{◌≡◌, refl, ℕ, ◌≤◌, List, [], ◌∷◌, length, arith}
-use Rattle.ios_reader.specs.Forms.{without_zeros}
+use Rattle.ios_reader.specs.Names.{without_zeros}
 
 -- no zero goes where one byte is left
 pub last_stays : (text : List ℕ) → length text ≤ 1 → text ≡ without_zeros text

@@ -1,15 +1,73 @@
--- What the laws of the cut speak of: a line as it stands before its LF, and the span of a statement.
-pub use Rattle.route_types.specs.Text.{without_return as line_bytes}
-use Rattle.std.specs.Prelude.{true, false, List, [], ◌∷◌, Option, Some, None}
-use Rattle.route_types.specs.Text.{starts_with_byte}
-use Rattle.route_types.specs.declared.statement.Span.{Span}
-use Rattle.route_types.specs.declared.statement.Word.{Word}
-use Rattle.ios_reader.specs.Cut.{end_of}
+-- What the lines of an entry name, test and set.
+use Rattle.std.specs.Prelude.{ℕ, Bool, true, false, ◌&&◌, List, Option, None, bytes_eq}
+use Rattle.std.specs.List.{list_any}
+use Rattle.route_types.specs.Address.{same_family}
+use Rattle.route_types.specs.declared.address.Family.{Family}
+use Rattle.ios_reader.specs.declared.item.MapLine.{MapLine}
+use Rattle.ios_reader.specs.declared.item.MapLine.TheVariants.{MatchPrefix, MatchNextHop, MatchCommunity, MatchMetric, SetLocalPreference, SetMetric, SetWeight, SetPrepend, SetOrigin, SetNextHop, SetCommunity, DeleteCommunities, Continue, Description}
 
--- the span of a line's words, where they are a statement
-abbrev pub span_of : List Word → Option Span
-span_of [] = None
-span_of (w ∷ ws) = elim (starts_with_byte 33 w.text) [
-  | true ↦ None
-  | false ↦ Some (record { start = w.span.start; end = end_of w.span.end ws })
-]
+-- the line names this prefix list of the family
+abbrev pub names_prefix_list : Family → List ℕ → MapLine → Bool
+names_prefix_list family list (MatchPrefix m) = same_family family m.family && list_any (bytes_eq list) m.lists
+names_prefix_list family list (MatchNextHop m) = same_family family m.family && list_any (bytes_eq list) m.lists
+names_prefix_list family list _ = false
+
+-- the line names this community list
+abbrev pub names_community_list : List ℕ → MapLine → Bool
+names_community_list list (MatchCommunity m) = list_any (bytes_eq list) m.lists
+names_community_list list (DeleteCommunities other) = bytes_eq list other
+names_community_list list _ = false
+
+-- the form of a line as a number: lines of one form have one, both forms of `continue` are one, and so are
+-- both forms of `set community`
+abbrev pub kind_of : MapLine → ℕ
+kind_of (MatchPrefix m) = 0
+kind_of (MatchNextHop m) = 1
+kind_of (MatchCommunity m) = 2
+kind_of (MatchMetric ns) = 3
+kind_of (SetLocalPreference n) = 4
+kind_of (SetMetric n) = 5
+kind_of (SetWeight n) = 6
+kind_of (SetPrepend ns) = 7
+kind_of (SetOrigin o) = 8
+kind_of (SetNextHop a) = 9
+kind_of (SetCommunity s) = 10
+kind_of (DeleteCommunities list) = 11
+kind_of (Continue s) = 12
+kind_of Description = 13
+
+-- a `description` line
+abbrev pub is_description_line : MapLine → Bool
+is_description_line Description = true
+is_description_line _ = false
+
+-- a `continue` line
+abbrev pub continues : MapLine → Bool
+continues (Continue s) = true
+continues _ = false
+
+-- the number of the entry that a line continues at, where it gives one
+abbrev pub target_of : MapLine → Option ℕ
+target_of (Continue s) = s
+target_of _ = None
+
+-- a line that sets the MED, the next hop, or the communities
+abbrev pub sets_med : MapLine → Bool
+sets_med (SetMetric n) = true
+sets_med _ = false
+
+abbrev pub sets_next_hop : MapLine → Bool
+sets_next_hop (SetNextHop a) = true
+sets_next_hop _ = false
+
+abbrev pub sets_communities : MapLine → Bool
+sets_communities (SetCommunity s) = true
+sets_communities (DeleteCommunities list) = true
+sets_communities _ = false
+
+-- the second line sets what the first one tests
+abbrev pub sets_tested : MapLine → MapLine → Bool
+sets_tested (MatchMetric ns) line = sets_med line
+sets_tested (MatchNextHop m) line = sets_next_hop line
+sets_tested (MatchCommunity m) line = sets_communities line
+sets_tested _ line = false

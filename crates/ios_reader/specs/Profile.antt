@@ -1,17 +1,28 @@
--- The profile of an IOS policy: which items it reaches, the four causes, each a test of its own on the
--- whole tree, and the first fault in text order.
-pub use Rattle.route_types.specs.Names.{is_named}
-use Rattle.std.specs.Prelude.{◌≡◌, ℕ, Bool, true, false, ◌&&◌, not, ◌==◌, List, [], ◌∷◌, ◌++◌, Option, Some, None, bytes_eq}
+-- The profile of an IOS policy: which items it reaches, the causes, each a test of its own on the whole
+-- tree, and the first fault in text order.
+use Rattle.std.specs.Prelude.{◌≡◌, ℕ, Bool, true, false, ◌&&◌, ◌||◌, not, ◌==◌, nat_le, nat_lt, List, [], ◌∷◌, ◌++◌, Option, Some, None, bytes_eq}
 use Rattle.std.specs.List.{list_any}
 use Rattle.route_types.specs.Words.{when}
-use Rattle.route_types.specs.declared.statement.Span.{Span}
-use Rattle.route_types.specs.declared.fault.Cause.{Cause}
-use Rattle.route_types.specs.declared.fault.Cause.TheVariants.{UnknownForm, SequenceTwice, Undefined, SameKindTwice}
-use Rattle.ios_reader.specs.Forms.{first_some}
+use Rattle.route_types.specs.declared.address.Family.{Family}
+use Rattle.policy_text.specs.Names.{is_named, first_some}
+use Rattle.policy_text.specs.declared.statement.Span.{Span}
+use Rattle.policy_text.specs.declared.fault.Cause.{Cause}
+use Rattle.policy_text.specs.declared.fault.Cause.TheVariants.{UnknownForm, DefinedTwice, SequenceTwice, Undefined, SameKindTwice, BackwardContinue, DenyContinue, UnsettledTest, ExactExpanded}
+use Rattle.ios_reader.specs.Tree.{is_of_list, family_of}
+use Rattle.ios_reader.specs.Sorts.{sort_of_form, name_of_form, is_line, heads, is_prefix_sort, is_community_sort, is_description, is_expanded}
+use Rattle.ios_reader.specs.Entries.{onto_lines, entries_of}
+use Rattle.ios_reader.specs.Lines.{names_prefix_list, names_community_list, kind_of, is_description_line, continues, target_of, sets_tested}
+use Rattle.ios_reader.specs.FirstForms.{is_first_form}
 use Rattle.ios_reader.specs.declared.item.ItemSort.{ItemSort}
-use Rattle.ios_reader.specs.declared.item.ItemSort.TheVariants.{PrefixList, CommunityList, PathList, Map, Line}
+use Rattle.ios_reader.specs.declared.item.ItemSort.TheVariants.{PrefixList, CommunityList, PathList, Map}
+use Rattle.ios_reader.specs.declared.item.ItemSort.TheVariants.{Line as LineSort}
 use Rattle.ios_reader.specs.declared.item.IosForm.{IosForm}
-use Rattle.ios_reader.specs.declared.item.IosForm.TheVariants.{PrefixEntry, MapHeader, MatchPrefix, SetLocalPreference, Other}
+use Rattle.ios_reader.specs.declared.item.IosForm.TheVariants.{PrefixEntry, PrefixDescription, CommunityEntry, MapHeader, Line, Other}
+use Rattle.ios_reader.specs.declared.item.MapHeader.{MapHeader as Header}
+use Rattle.ios_reader.specs.declared.item.MapLine.{MapLine}
+use Rattle.ios_reader.specs.declared.item.MapLine.TheVariants.{MatchPrefix, MatchNextHop, MatchCommunity, DeleteCommunities}
+use Rattle.ios_reader.specs.declared.item.Forms.{Forms}
+use Rattle.ios_reader.specs.declared.item.Forms.TheVariants.{All, First}
 use Rattle.ios_reader.specs.declared.item.IosItem.{IosItem}
 
 -- a policy as clauses see it
@@ -19,173 +30,216 @@ pub record PolicyParts : Type 0 where
   pub items : List IosItem
   pub names : List (List ℕ)
 
--- what a form is
-abbrev pub sort_of_form : IosForm → ItemSort
-sort_of_form (PrefixEntry e) = PrefixList
-sort_of_form (MapHeader h) = Map
-sort_of_form (MatchPrefix names) = Line
-sort_of_form (SetLocalPreference n) = Line
-sort_of_form (Other o) = o.sort
+-- ---- what is there, and what is reached
 
--- the name that a form stands under
-abbrev pub name_of_form : IosForm → Option (List ℕ)
-name_of_form (PrefixEntry e) = Some e.list
-name_of_form (MapHeader h) = Some h.map
-name_of_form (MatchPrefix names) = None
-name_of_form (SetLocalPreference n) = None
-name_of_form (Other o) = o.name
+-- an item of this prefix list; a description is none
+abbrev pub of_prefix_list : Family → List ℕ → IosItem → Bool
+of_prefix_list family list i = is_prefix_sort family (sort_of_form i.form) && is_named list (name_of_form i.form) && not (is_description i.form)
 
--- a line of an entry
-abbrev pub is_line_sort : ItemSort → Bool
-is_line_sort PrefixList = false
-is_line_sort CommunityList = false
-is_line_sort PathList = false
-is_line_sort Map = false
-is_line_sort Line = true
-
-abbrev pub is_line : IosItem → Bool
-is_line i = is_line_sort (sort_of_form i.form)
-
--- the first line of an entry of the map of this name, of whatever form
-abbrev pub is_header_sort : ItemSort → Bool
-is_header_sort PrefixList = false
-is_header_sort CommunityList = false
-is_header_sort PathList = false
-is_header_sort Map = true
-is_header_sort Line = false
-
-abbrev pub heads : List ℕ → IosItem → Bool
-heads name i = is_header_sort (sort_of_form i.form) && is_named name (name_of_form i.form)
-
--- an item of the prefix list of this name, of whatever form
-abbrev pub is_list_sort : ItemSort → Bool
-is_list_sort PrefixList = true
-is_list_sort CommunityList = false
-is_list_sort PathList = false
-is_list_sort Map = false
-is_list_sort Line = false
-
-abbrev pub of_list : List ℕ → IosItem → Bool
-of_list name i = is_list_sort (sort_of_form i.form) && is_named name (name_of_form i.form)
+-- an item of this community list
+abbrev pub of_community_list : List ℕ → IosItem → Bool
+of_community_list list i = is_community_sort (sort_of_form i.form) && is_named list (name_of_form i.form)
 
 -- whether the entry that is open behind these items is one of the map; `inside` says it before them
 abbrev pub is_inside : List ℕ → Bool → List IosItem → Bool
 is_inside name inside [] = inside
 is_inside name inside (i ∷ is) = elim (is_line i) [ true ↦ is_inside name inside is | false ↦ is_inside name (heads name i) is ]
 
--- the list names that a form names
-abbrev pub names_in : IosForm → List (List ℕ)
-names_in (PrefixEntry e) = []
-names_in (MapHeader h) = []
-names_in (MatchPrefix names) = names
-names_in (SetLocalPreference n) = []
-names_in (Other o) = []
-
--- the list names that the lines of the map name; `inside` says whether the first lines are lines of it
-abbrev pub lists_named : List ℕ → Bool → List IosItem → List (List ℕ)
-lists_named name inside [] = []
-lists_named name inside (i ∷ is) = elim (is_line i) [
-  | true ↦ elim inside [ true ↦ names_in i.form ++ lists_named name true is | false ↦ lists_named name false is ]
-  | false ↦ lists_named name (heads name i) is
+-- the lines of the map; `inside` says whether the first lines are lines of it
+abbrev pub lines_of : List ℕ → Bool → List IosItem → List MapLine
+lines_of name inside [] = []
+lines_of name inside (i ∷ is) = elim (is_line i) [
+  | true ↦ elim inside [ true ↦ onto_lines i.form (lines_of name true is) | false ↦ lines_of name false is ]
+  | false ↦ lines_of name (heads name i) is
 ]
+
+-- the name is there, and passes a test
+abbrev pub passes : (List ℕ → Bool) → Option (List ℕ) → Bool
+passes test None = false
+passes test (Some name) = test name
 
 -- the item is reached: it heads an entry of the map, is a line of one, or is of a list that such a line names
 abbrev pub reached_by_sort : List ℕ → List IosItem → List IosItem → IosItem → ItemSort → Bool
-reached_by_sort name all before i PrefixList = list_any (λ l. of_list l i) (lists_named name false all)
-reached_by_sort name all before i CommunityList = false
+reached_by_sort name all before i (PrefixList family) = passes (λ list. list_any (names_prefix_list family list) (lines_of name false all)) (name_of_form i.form)
+reached_by_sort name all before i CommunityList = passes (λ list. list_any (names_community_list list) (lines_of name false all)) (name_of_form i.form)
 reached_by_sort name all before i PathList = false
 reached_by_sort name all before i Map = heads name i
-reached_by_sort name all before i Line = is_inside name false before
+reached_by_sort name all before i LineSort = is_inside name false before
 
 abbrev pub reached : List ℕ → List IosItem → List IosItem → IosItem → Bool
 reached name all before i = reached_by_sort name all before i (sort_of_form i.form)
 
+-- the header of the entry that is open behind these items, if it has its form; `header` is the one before them
+abbrev pub header_in : IosForm → Option Header
+header_in (PrefixEntry e) = None
+header_in (PrefixDescription d) = None
+header_in (CommunityEntry e) = None
+header_in (MapHeader h) = Some h
+header_in (Line l) = None
+header_in (Other o) = None
+
+abbrev pub open_header : Option Header → List IosItem → Option Header
+open_header header [] = header
+open_header header (i ∷ is) = elim (is_line i) [ true ↦ open_header header is | false ↦ open_header (header_in i.form) is ]
+
+-- the lines of the entry that is open behind these items; `lines` are those before them
+abbrev pub open_lines : List MapLine → List IosItem → List MapLine
+open_lines lines [] = lines
+open_lines lines (i ∷ is) = elim (is_line i) [ true ↦ open_lines (lines ++ onto_lines i.form []) is | false ↦ open_lines [] is ]
+
+-- ---- the causes
+
 -- unknown-form: the statement spells no form
 abbrev pub has_no_form : IosForm → Bool
 has_no_form (PrefixEntry e) = false
+has_no_form (PrefixDescription d) = false
+has_no_form (CommunityEntry e) = false
 has_no_form (MapHeader h) = false
-has_no_form (MatchPrefix names) = false
-has_no_form (SetLocalPreference n) = false
+has_no_form (Line l) = false
 has_no_form (Other o) = true
 
+-- an entry of this community list, of an expanded one or of a standard one
+abbrev pub is_community_entry : List ℕ → Bool → IosForm → Bool
+is_community_entry list expanded (PrefixEntry e) = false
+is_community_entry list expanded (PrefixDescription d) = false
+is_community_entry list expanded (CommunityEntry e) = bytes_eq list e.list && elim expanded [ true ↦ is_expanded e.shape | false ↦ not (is_expanded e.shape) ]
+is_community_entry list expanded (MapHeader h) = false
+is_community_entry list expanded (Line l) = false
+is_community_entry list expanded (Other o) = false
+
+-- defined-twice: the list is of the other sort before, and of this sort from here on
+abbrev pub is_second_sort : List IosItem → IosForm → Bool
+is_second_sort before (PrefixEntry e) = false
+is_second_sort before (PrefixDescription d) = false
+is_second_sort before (CommunityEntry e) =
+    list_any (λ i. is_community_entry e.list (not (is_expanded e.shape)) i.form) before && not (list_any (λ i. is_community_entry e.list (is_expanded e.shape) i.form) before)
+is_second_sort before (MapHeader h) = false
+is_second_sort before (Line l) = false
+is_second_sort before (Other o) = false
+
 -- an entry of this prefix list with this number
-abbrev pub is_prefix_entry : List ℕ → ℕ → IosForm → Bool
-is_prefix_entry list number (PrefixEntry e) = bytes_eq list e.list && (number == e.number)
-is_prefix_entry list number (MapHeader h) = false
-is_prefix_entry list number (MatchPrefix names) = false
-is_prefix_entry list number (SetLocalPreference n) = false
-is_prefix_entry list number (Other o) = false
+abbrev pub is_prefix_entry : Family → List ℕ → ℕ → IosForm → Bool
+is_prefix_entry family list number (PrefixEntry e) = is_of_list family list e && (number == e.number)
+is_prefix_entry family list number (PrefixDescription d) = false
+is_prefix_entry family list number (CommunityEntry e) = false
+is_prefix_entry family list number (MapHeader h) = false
+is_prefix_entry family list number (Line l) = false
+is_prefix_entry family list number (Other o) = false
 
 -- the first line of an entry of this map with this number
 abbrev pub is_map_header : List ℕ → ℕ → IosForm → Bool
 is_map_header map number (PrefixEntry e) = false
+is_map_header map number (PrefixDescription d) = false
+is_map_header map number (CommunityEntry e) = false
 is_map_header map number (MapHeader h) = bytes_eq map h.map && (number == h.number)
-is_map_header map number (MatchPrefix names) = false
-is_map_header map number (SetLocalPreference n) = false
+is_map_header map number (Line l) = false
 is_map_header map number (Other o) = false
 
 -- sequence-twice: an earlier item of the name has the number
 abbrev pub repeats_number : List IosItem → IosForm → Bool
-repeats_number before (PrefixEntry e) = list_any (λ i. is_prefix_entry e.list e.number i.form) before
+repeats_number before (PrefixEntry e) = list_any (λ i. is_prefix_entry (family_of e) e.list e.number i.form) before
+repeats_number before (PrefixDescription d) = false
+repeats_number before (CommunityEntry e) = false
 repeats_number before (MapHeader h) = list_any (λ i. is_map_header h.map h.number i.form) before
-repeats_number before (MatchPrefix names) = false
-repeats_number before (SetLocalPreference n) = false
+repeats_number before (Line l) = false
 repeats_number before (Other o) = false
 
--- undefined: a list is named that no item of the tree stands under
-abbrev pub names_missing : List IosItem → IosForm → Bool
-names_missing all form = list_any (λ l. not (list_any (of_list l) all)) (names_in form)
+-- undefined: a list is named that isn't there
+abbrev pub lists_missing : List IosItem → MapLine → Bool
+lists_missing all (MatchPrefix m) = list_any (λ list. not (list_any (of_prefix_list m.family list) all)) m.lists
+lists_missing all (MatchNextHop m) = list_any (λ list. not (list_any (of_prefix_list m.family list) all)) m.lists
+lists_missing all (MatchCommunity m) = list_any (λ list. not (list_any (of_community_list list) all)) m.lists
+lists_missing all (DeleteCommunities list) = not (list_any (of_community_list list) all)
+lists_missing all _ = false
 
--- the lines of the entry that is open behind these items; `lines` are those before them
-abbrev pub open_lines : List IosForm → List IosItem → List IosForm
-open_lines lines [] = lines
-open_lines lines (i ∷ is) = elim (is_line i) [ true ↦ open_lines (lines ++ i.form ∷ []) is | false ↦ open_lines [] is ]
-
--- a `match ip address prefix-list` line
-abbrev pub is_match_prefix : IosForm → Bool
-is_match_prefix (PrefixEntry e) = false
-is_match_prefix (MapHeader h) = false
-is_match_prefix (MatchPrefix names) = true
-is_match_prefix (SetLocalPreference n) = false
-is_match_prefix (Other o) = false
-
-abbrev pub is_set_local_preference : IosForm → Bool
-is_set_local_preference (PrefixEntry e) = false
-is_set_local_preference (MapHeader h) = false
-is_set_local_preference (MatchPrefix names) = false
-is_set_local_preference (SetLocalPreference n) = true
-is_set_local_preference (Other o) = false
+-- undefined: the run is to go on at an entry above that isn't there
+abbrev pub target_missing : List ℕ → List IosItem → Header → Option ℕ → Bool
+target_missing name all h None = false
+target_missing name all h (Some s) = nat_lt h.number s && not (list_any (λ i. is_map_header name s i.form) all)
 
 -- same-kind-twice: the entry has an earlier line of this form
-abbrev pub repeats_kind : List IosForm → IosForm → Bool
-repeats_kind lines (PrefixEntry e) = false
-repeats_kind lines (MapHeader h) = false
-repeats_kind lines (MatchPrefix names) = list_any is_match_prefix lines
-repeats_kind lines (SetLocalPreference n) = list_any is_set_local_preference lines
-repeats_kind lines (Other o) = false
+abbrev pub repeats_kind : List MapLine → MapLine → Bool
+repeats_kind lines line = not (is_description_line line) && list_any (λ l. kind_of l == kind_of line) lines
 
--- the fault of an item with these items before it, the causes in their order
-abbrev pub cause_at : List IosItem → List IosItem → IosForm → Option Cause
-cause_at all before form =
-    first_some (when (has_no_form form) UnknownForm)
+-- backward-continue: the run is to go on at an entry that isn't above
+abbrev pub continues_back : Header → Option ℕ → Bool
+continues_back h None = false
+continues_back h (Some s) = nat_le s h.number
+
+-- unsettled-test: an entry of lower number sets what the line tests, and continues
+abbrev pub is_unsettled : List ℕ → List IosItem → Header → MapLine → Bool
+is_unsettled name all h line = list_any (λ e. nat_lt e.number h.number && (list_any continues e.lines && list_any (sets_tested line) e.lines)) (entries_of name all)
+
+-- exact-expanded: `exact-match` with an expanded list
+abbrev pub is_exact_expanded : List IosItem → MapLine → Bool
+is_exact_expanded all (MatchCommunity m) = m.exact && list_any (λ list. list_any (λ i. is_community_entry list true i.form) all) m.lists
+is_exact_expanded all _ = false
+
+-- the causes that look at the number or the action of the entry; they need a header that has its form
+pub record EntryCauses : Type 0 where
+  pub target : Bool
+  pub back : Bool
+  pub deny : Bool
+  pub unsettled : Bool
+
+abbrev pub entry_causes : List ℕ → List IosItem → Option Header → MapLine → EntryCauses
+entry_causes name all None line = record { target = false; back = false; deny = false; unsettled = false }
+entry_causes name all (Some h) line = record {
+  target = target_missing name all h (target_of line);
+  back = continues_back h (target_of line);
+  deny = continues line && not h.permit;
+  unsettled = is_unsettled name all h line;
+}
+
+-- the fault of a line with these items before it, the causes in their order
+abbrev pub line_cause : List ℕ → List IosItem → List IosItem → MapLine → Option Cause
+line_cause name all before line = let entry = entry_causes name all (open_header None before) line in
+    first_some (when (lists_missing all line || entry.target) Undefined)
+    (first_some (when (repeats_kind (open_lines [] before) line) SameKindTwice)
+    (first_some (when entry.back BackwardContinue)
+    (first_some (when entry.deny DenyContinue)
+    (first_some (when entry.unsettled UnsettledTest)
+    (when (is_exact_expanded all line) ExactExpanded)))))
+
+abbrev pub line_cause_in : List ℕ → List IosItem → List IosItem → IosForm → Option Cause
+line_cause_in name all before (PrefixEntry e) = None
+line_cause_in name all before (PrefixDescription d) = None
+line_cause_in name all before (CommunityEntry e) = None
+line_cause_in name all before (MapHeader h) = None
+line_cause_in name all before (Line l) = line_cause name all before l
+line_cause_in name all before (Other o) = None
+
+-- the fault of an item with these items before it, the causes in their order; `unknown` says which forms are unknown
+abbrev pub cause_at : (IosForm → Bool) → List ℕ → List IosItem → List IosItem → IosForm → Option Cause
+cause_at unknown name all before form =
+    first_some (when (unknown form) UnknownForm)
+    (first_some (when (is_second_sort before form) DefinedTwice)
     (first_some (when (repeats_number before form) SequenceTwice)
-    (first_some (when (names_missing all form) Undefined)
-    (when (repeats_kind (open_lines [] before) form) SameKindTwice)))
+    (line_cause_in name all before form)))
 
-abbrev pub fault_at : List ℕ → List IosItem → List IosItem → IosItem → Option Cause
-fault_at name all before i = elim (reached name all before i) [ true ↦ cause_at all before i.form | false ↦ None ]
+abbrev pub fault_at : (IosForm → Bool) → List ℕ → List IosItem → List IosItem → IosItem → Option Cause
+fault_at unknown name all before i = elim (reached name all before i) [ true ↦ cause_at unknown name all before i.form | false ↦ None ]
 
 -- the first item behind those before it that has a fault, by its span and its cause
-abbrev pub first_fault_from : List ℕ → List IosItem → List IosItem → List IosItem → Option (Span × Cause)
-first_fault_from name all before [] = None
-first_fault_from name all before (i ∷ is) = elim (fault_at name all before i) [
+abbrev pub first_fault_from : (IosForm → Bool) → List ℕ → List IosItem → List IosItem → List IosItem → Option (Span × Cause)
+first_fault_from unknown name all before [] = None
+first_fault_from unknown name all before (i ∷ is) = elim (fault_at unknown name all before i) [
   | Some cause ↦ Some (i.span, cause)
-  | None ↦ first_fault_from name all (before ++ i ∷ []) is
+  | None ↦ first_fault_from unknown name all (before ++ i ∷ []) is
 ]
 
+-- the forms that are unknown to a caller who takes these
+abbrev pub is_unknown : Forms → IosForm → Bool
+is_unknown All form = has_no_form form
+is_unknown First form = not (is_first_form form)
+
+-- the first fault of the policy of this name, for a caller who takes these forms
+unfoldable pub first_fault_within : Forms → List ℕ → List IosItem → Option (Span × Cause)
+first_fault_within taken name all = first_fault_from (is_unknown taken) name all [] all
+
 -- the first fault of the policy of this name
-unfoldable pub first_fault : List ℕ → List IosItem → Option (Span × Cause)
-first_fault name all = first_fault_from name all [] all
+abbrev pub first_fault : List ℕ → List IosItem → Option (Span × Cause)
+first_fault name all = first_fault_within All name all
 
 -- a route-map stands under the name
 unfoldable pub is_defined : List ℕ → List IosItem → Bool

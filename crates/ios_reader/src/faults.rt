@@ -1,154 +1,90 @@
-ghost use Rattle.std.specs.Prelude.{◌≡◌, List, [], ◌∷◌, ℕ, ◌||◌, ◌&&◌, ◌==◌, not, false, IfOk, OnOk, bytes_eq, option_map};
+ghost use Rattle.std.specs.Prelude.{◌≡◌, ℕ, ◌&&◌, not, IfOk, OnOk, List, Bool, ◌||◌, option_map};
 ghost use Rattle.std.specs.List.{list_any};
-ghost use Rattle.ios_reader.specs.Profile.{sort_of_form, name_of_form, is_named, is_line_sort, is_prefix_entry, is_map_header, has_no_form, is_match_prefix, is_set_local_preference, of_list, lists_named, first_fault, heads, is_defined};
-ghost use Rattle.ios_reader.specs.Seen.{has_name, has_entry, repeats_given, name_passes, heads_form, reached_given, repeats_kind_given, names_missing_given, cause_of_tests, fault_given, place_behind};
+ghost use Rattle.policy_text.specs.Names.{is_named};
+ghost use Rattle.route_types.specs.declared.address.Family.{Family as SpecFamily};
+ghost use Rattle.ios_reader.specs.Profile.{passes, is_prefix_entry, is_map_header, is_community_entry};
+ghost use Rattle.ios_reader.specs.Seen.{has_name, has_entry, has_list, has_sort, has_place};
+ghost use Rattle.ios_reader.specs.Known.{known_facts};
+ghost use Rattle.ios_reader.specs.Settings.{is_above};
+ghost use Rattle.ios_reader.specs.Walk.{has_kind};
+ghost use Rattle.ios_reader.specs.Given.{reached_given, lists_missing_given, target_missing_given, continues_back_given, is_unsettled_given, is_exact_expanded_given, entry_causes_given, line_cause_of, line_cause_given, line_fault_given, cause_of, second_sort_given, repeats_given, fault_given, causes_in};
 
-use crate::item::{IosForm, ItemSort};
-use crate::seen::{add_entry, has_name};
-use route_types::{Cause, Memory, Row};
+use crate::item::{Forms, IosForm, ItemSort, MapLine};
+use crate::known::Known;
+use crate::place::{EntryHead, Place, has_kind};
+use crate::seen::{add_entry, add_place, add_sort, has_entry, has_list, has_name};
+use crate::sorts::{
+    continues, family_of, is_description_line, is_expanded, is_unknown, name_of_form, sort_of_form,
+    stands_under, target_of,
+};
+use policy_text::Cause;
+use route_types::{Family, Memory, Row};
 use std::collections::BTreeSet;
 
-// Where the walk stands: whether the open entry is one of the policy, and which lines it has.
-#[derive(Clone, Copy, Debug, PartialEq, Eq)]
-pub(crate) struct Place {
-    pub(crate) inside: bool,
-    pub(crate) has_match: bool,
-    pub(crate) has_set: bool,
-}
-
-// ---- what a form says
-
-pub(crate) fn sort_of_form(form: &IosForm) -> ItemSort
-    ensures { result ≡ sort_of_form form.now }
-{
-    match form {
-        IosForm::PrefixEntry(_) => ItemSort::PrefixList,
-        IosForm::MapHeader(_) => ItemSort::Map,
-        IosForm::MatchPrefix(_) => ItemSort::Line,
-        IosForm::SetLocalPreference(_) => ItemSort::Line,
-        IosForm::Other(other) => other.sort,
-    }
-}
-
-fn name_of_other(name: &Option<Row<u8>>) -> Option<&[u8]>
-    ensures { option_map (λ n. n.now) result ≡ name.now }
-{
-    match name {
-        None => None,
-        Some(name) => Some(name.as_slice()),
-    }
-}
-
-pub(crate) fn name_of_form(form: &IosForm) -> Option<&[u8]>
-    ensures { option_map (λ n. n.now) result ≡ name_of_form form.now }
-{
-    match form {
-        IosForm::PrefixEntry(entry) => Some(entry.list.as_slice()),
-        IosForm::MapHeader(header) => Some(header.map.as_slice()),
-        IosForm::MatchPrefix(_) => None,
-        IosForm::SetLocalPreference(_) => None,
-        IosForm::Other(other) => name_of_other(&other.name),
-    }
-}
-
-fn same_name(name: &[u8], other: &[u8]) -> bool
-    ensures { result ≡ bytes_eq name.now other.now }
-{
-    name == other
-}
-
-pub(crate) fn is_line(form: &IosForm) -> bool
-    ensures { result ≡ is_line_sort (sort_of_form form.now) }
-{
-    match sort_of_form(form) {
-        ItemSort::PrefixList => false,
-        ItemSort::CommunityList => false,
-        ItemSort::PathList => false,
-        ItemSort::Map => false,
-        ItemSort::Line => true,
-    }
-}
-
-fn stands_under(name: &[u8], form: &IosForm) -> bool
-    ensures { result ≡ is_named name.now (name_of_form form.now) }
-{
-    match name_of_form(form) {
-        None => false,
-        Some(other) => same_name(name, other),
-    }
-}
-
-pub(crate) fn heads(name: &[u8], form: &IosForm) -> bool
-    ensures { result ≡ heads_form name.now form.now }
-{
-    match sort_of_form(form) {
-        ItemSort::PrefixList => false,
-        ItemSort::CommunityList => false,
-        ItemSort::PathList => false,
-        ItemSort::Map => stands_under(name, form),
-        ItemSort::Line => false,
-    }
-}
-
-fn has_no_form(form: &IosForm) -> bool
-    ensures { result ≡ has_no_form form.now }
-{
-    match form {
-        IosForm::PrefixEntry(_) => false,
-        IosForm::MapHeader(_) => false,
-        IosForm::MatchPrefix(_) => false,
-        IosForm::SetLocalPreference(_) => false,
-        IosForm::Other(_) => true,
-    }
-}
-
-fn is_match_prefix(form: &IosForm) -> bool
-    ensures { result ≡ is_match_prefix form.now }
-{
-    match form {
-        IosForm::PrefixEntry(_) => false,
-        IosForm::MapHeader(_) => false,
-        IosForm::MatchPrefix(_) => true,
-        IosForm::SetLocalPreference(_) => false,
-        IosForm::Other(_) => false,
-    }
-}
-
-fn is_set_local_preference(form: &IosForm) -> bool
-    ensures { result ≡ is_set_local_preference form.now }
-{
-    match form {
-        IosForm::PrefixEntry(_) => false,
-        IosForm::MapHeader(_) => false,
-        IosForm::MatchPrefix(_) => false,
-        IosForm::SetLocalPreference(_) => true,
-        IosForm::Other(_) => false,
-    }
-}
-
-// ---- the tests of a fault
+// ---- what stands before an item
 
 // Notes the number of an entry, and says whether it was there.
 pub(crate) fn note_number<'a>(
-    entries: &mut BTreeSet<(&'a [u8], u64)>,
+    entries: &mut BTreeSet<(&'a [u8], u64, u64)>,
     headers: &mut BTreeSet<(&'a [u8], u64)>,
     form: &'a IosForm,
 ) -> Result<bool, Memory>
-    ensures there { IfOk result (λ r. r ≡ repeats_given (has_entry entries.old) (has_entry headers.old) form.now) }
-    ensures entries { OnOk result ((q : List ℕ) (n : ℕ) → has_entry entries.new q n ≡ (has_entry entries.old q n || is_prefix_entry q n form.now)) }
+    ensures there { IfOk result (λ r. r ≡ repeats_given (has_place entries.old) (has_entry headers.old) form.now) }
+    ensures entries { OnOk result ((f : SpecFamily) (q : List ℕ) (n : ℕ) → has_place entries.new f q n ≡ (has_place entries.old f q n || is_prefix_entry f q n form.now)) }
     ensures headers { OnOk result ((q : List ℕ) (n : ℕ) → has_entry headers.new q n ≡ (has_entry headers.old q n || is_map_header q n form.now)) }
 {
     match form {
-        IosForm::PrefixEntry(entry) => add_entry(entries, entry.list.as_slice(), entry.number),
+        IosForm::PrefixEntry(entry) => add_place(
+            entries,
+            family_of(entry),
+            entry.list.as_slice(),
+            entry.number,
+        ),
+        IosForm::PrefixDescription(_) => Ok(false),
+        IosForm::CommunityEntry(_) => Ok(false),
         IosForm::MapHeader(header) => add_entry(headers, header.map.as_slice(), header.number),
-        IosForm::MatchPrefix(_) => Ok(false),
-        IosForm::SetLocalPreference(_) => Ok(false),
+        IosForm::Line(_) => Ok(false),
         IosForm::Other(_) => Ok(false),
     }
 }
 
-fn name_is_in<'a>(names: &BTreeSet<&'a [u8]>, name: Option<&'a [u8]>) -> bool
-    ensures { result ≡ name_passes (has_name names.now) (option_map (λ n. n.now) name.entry) }
+// Notes the sort of a community list, and says whether it was of the other sort alone.
+pub(crate) fn note_sort<'a>(
+    sorts: &mut BTreeSet<(&'a [u8], bool)>,
+    form: &'a IosForm,
+) -> Result<bool, Memory>
+    ensures there { IfOk result (λ r. r ≡ second_sort_given (has_sort sorts.old) form.now) }
+    ensures sorts { OnOk result ((q : List ℕ) (b : Bool) → has_sort sorts.new q b ≡ (has_sort sorts.old q b || is_community_entry q b form.now)) }
+{
+    match form {
+        IosForm::PrefixEntry(_) => Ok(false),
+        IosForm::PrefixDescription(_) => Ok(false),
+        IosForm::CommunityEntry(entry) => {
+            add_sort(sorts, entry.list.as_slice(), is_expanded(&entry.shape))
+        }
+        IosForm::MapHeader(_) => Ok(false),
+        IosForm::Line(_) => Ok(false),
+        IosForm::Other(_) => Ok(false),
+    }
+}
+
+// ---- what is reached
+
+fn is_named_prefix<'a>(
+    lists: &BTreeSet<(&'a [u8], u64)>,
+    family: Family,
+    name: Option<&'a [u8]>,
+) -> bool
+    ensures { result ≡ passes (λ list. has_list lists.now family list) (option_map (λ n. n.now) name.entry) }
+{
+    match name {
+        None => false,
+        Some(name) => has_list(lists, family, name),
+    }
+}
+
+fn is_named_community<'a>(names: &BTreeSet<&'a [u8]>, name: Option<&'a [u8]>) -> bool
+    ensures { result ≡ passes (λ list. has_name names.now list) (option_map (λ n. n.now) name.entry) }
 {
     match name {
         None => false,
@@ -156,29 +92,32 @@ fn name_is_in<'a>(names: &BTreeSet<&'a [u8]>, name: Option<&'a [u8]>) -> bool
     }
 }
 
-fn is_reached<'a>(
-    policy: &[u8],
-    named: &BTreeSet<&'a [u8]>,
-    inside: bool,
-    form: &'a IosForm,
-) -> bool
-    ensures { result ≡ reached_given policy.now (has_name named.now) inside form.now }
+fn is_reached<'a>(policy: &'a [u8], known: &Known<'a>, inside: bool, form: &'a IosForm) -> bool
+    ensures { result ≡ reached_given policy.now (known_facts policy.now known.now) inside form.now }
 {
     match sort_of_form(form) {
-        ItemSort::PrefixList => name_is_in(named, name_of_form(form)),
-        ItemSort::CommunityList => false,
+        ItemSort::PrefixList(family) => {
+            is_named_prefix(&known.prefix_names, family, name_of_form(form))
+        }
+        ItemSort::CommunityList => is_named_community(&known.community_names, name_of_form(form)),
         ItemSort::PathList => false,
         ItemSort::Map => stands_under(policy, form),
         ItemSort::Line => inside,
     }
 }
 
-fn any_missing<'a>(defined: &BTreeSet<&'a [u8]>, names: &'a [Row<u8>]) -> bool
-    ensures { result ≡ list_any (λ l. not (has_name defined.now l)) names.now }
+// ---- the lists that a line names
+
+fn any_list_missing<'a>(
+    lists: &BTreeSet<(&'a [u8], u64)>,
+    family: Family,
+    names: &'a [Row<u8>],
+) -> bool
+    ensures { result ≡ list_any (λ list. not (has_list lists.now family list)) names.now }
 {
     let mut rest = names;
     while let [first, tail @ ..] = rest {
-        if !has_name(defined, first.as_slice()) {
+        if !has_list(lists, family, first.as_slice()) {
             return true;
         }
         rest = tail;
@@ -186,83 +125,229 @@ fn any_missing<'a>(defined: &BTreeSet<&'a [u8]>, names: &'a [Row<u8>]) -> bool
     false
 }
 
-fn names_missing<'a>(defined: &BTreeSet<&'a [u8]>, form: &'a IosForm) -> bool
-    ensures { result ≡ names_missing_given (has_name defined.now) form.now }
+fn any_name_missing<'a>(lists: &BTreeSet<&'a [u8]>, names: &'a [Row<u8>]) -> bool
+    ensures { result ≡ list_any (λ list. not (has_name lists.now list)) names.now }
 {
-    match form {
-        IosForm::PrefixEntry(_) => false,
-        IosForm::MapHeader(_) => false,
-        IosForm::MatchPrefix(names) => any_missing(defined, names.as_slice()),
-        IosForm::SetLocalPreference(_) => false,
-        IosForm::Other(_) => false,
+    let mut rest = names;
+    while let [first, tail @ ..] = rest {
+        if !has_name(lists, first.as_slice()) {
+            return true;
+        }
+        rest = tail;
+    }
+    false
+}
+
+fn any_name_there<'a>(lists: &BTreeSet<&'a [u8]>, names: &'a [Row<u8>]) -> bool
+    ensures { result ≡ list_any (λ list. has_name lists.now list) names.now }
+{
+    let mut rest = names;
+    while let [first, tail @ ..] = rest {
+        if has_name(lists, first.as_slice()) {
+            return true;
+        }
+        rest = tail;
+    }
+    false
+}
+
+fn lists_missing<'a>(policy: &[u8], known: &Known<'a>, line: &'a MapLine) -> bool
+    ensures { result ≡ lists_missing_given (known_facts policy.now known.now) line.now }
+{
+    match line {
+        MapLine::MatchPrefix(test) => {
+            any_list_missing(&known.prefix_lists, test.family, test.lists.as_slice())
+        }
+        MapLine::MatchNextHop(test) => {
+            any_list_missing(&known.prefix_lists, test.family, test.lists.as_slice())
+        }
+        MapLine::MatchCommunity(test) => {
+            any_name_missing(&known.community_lists, test.lists.as_slice())
+        }
+        MapLine::DeleteCommunities(list) => !has_name(&known.community_lists, list.as_slice()),
+        _ => false,
     }
 }
 
-fn repeats_kind(place: Place, form: &IosForm) -> bool
-    ensures { result ≡ repeats_kind_given place.has_match place.has_set form.now }
+fn is_exact_expanded<'a>(policy: &[u8], known: &Known<'a>, line: &'a MapLine) -> bool
+    ensures { result ≡ is_exact_expanded_given (known_facts policy.now known.now) line.now }
 {
-    match form {
-        IosForm::PrefixEntry(_) => false,
-        IosForm::MapHeader(_) => false,
-        IosForm::MatchPrefix(_) => place.has_match,
-        IosForm::SetLocalPreference(_) => place.has_set,
-        IosForm::Other(_) => false,
+    match line {
+        MapLine::MatchCommunity(test) => {
+            test.exact && any_name_there(&known.expanded, test.lists.as_slice())
+        }
+        _ => false,
     }
 }
 
-fn cause_of(unknown: bool, repeated: bool, missing: bool, again: bool) -> Option<Cause>
-    ensures { result ≡ cause_of_tests unknown repeated missing again }
+// ---- the number and the action of the entry
+
+fn target_missing<'a>(
+    policy: &'a [u8],
+    known: &Known<'a>,
+    head: EntryHead,
+    target: Option<u64>,
+) -> bool
+    ensures { result ≡ target_missing_given (known_facts policy.now known.now) head target }
 {
-    if unknown {
-        return Some(Cause::UnknownForm);
+    match target {
+        None => false,
+        Some(number) => head.number < number && !has_entry(&known.headers, policy, number),
     }
-    if repeated {
-        return Some(Cause::SequenceTwice);
+}
+
+fn continues_back(head: EntryHead, target: Option<u64>) -> bool
+    ensures { result ≡ continues_back_given head target }
+{
+    match target {
+        None => false,
+        Some(number) => number <= head.number,
     }
-    if missing {
+}
+
+fn is_above(least: Option<u64>, number: u64) -> bool
+    ensures { result ≡ is_above least number }
+{
+    match least {
+        None => false,
+        Some(least) => least < number,
+    }
+}
+
+fn is_unsettled(policy: &[u8], known: &Known<'_>, head: EntryHead, line: &MapLine) -> bool
+    ensures { result ≡ is_unsettled_given (known_facts policy.now known.now) head line.now }
+{
+    match line {
+        MapLine::MatchMetric(_) => is_above(known.med, head.number),
+        MapLine::MatchNextHop(_) => is_above(known.next_hop, head.number),
+        MapLine::MatchCommunity(_) => is_above(known.communities, head.number),
+        _ => false,
+    }
+}
+
+// The causes that need the header of the entry.
+#[derive(Clone, Copy)]
+struct EntryFaults {
+    target: bool,
+    back: bool,
+    deny: bool,
+    unsettled: bool,
+}
+
+fn entry_faults<'a>(
+    policy: &'a [u8],
+    known: &Known<'a>,
+    head: Option<EntryHead>,
+    line: &MapLine,
+) -> EntryFaults
+    ensures { causes_in result ≡ entry_causes_given (known_facts policy.now known.now) head line.now }
+{
+    match head {
+        None => EntryFaults {
+            target: false,
+            back: false,
+            deny: false,
+            unsettled: false,
+        },
+        Some(head) => EntryFaults {
+            target: target_missing(policy, known, head, target_of(line)),
+            back: continues_back(head, target_of(line)),
+            deny: continues(line) && !head.permit,
+            unsettled: is_unsettled(policy, known, head, line),
+        },
+    }
+}
+
+// ---- the first cause
+
+fn line_cause_of(missing: bool, again: bool, entry: EntryFaults, exact: bool) -> Option<Cause>
+    ensures { result ≡ line_cause_of missing again (causes_in entry) exact }
+{
+    if missing || entry.target {
         return Some(Cause::Undefined);
     }
     if again {
         return Some(Cause::SameKindTwice);
     }
+    if entry.back {
+        return Some(Cause::BackwardContinue);
+    }
+    if entry.deny {
+        return Some(Cause::DenyContinue);
+    }
+    if entry.unsettled {
+        return Some(Cause::UnsettledTest);
+    }
+    if exact {
+        return Some(Cause::ExactExpanded);
+    }
     None
 }
 
-pub(crate) fn fault_of<'a>(
-    policy: &[u8],
-    defined: &BTreeSet<&'a [u8]>,
-    named: &BTreeSet<&'a [u8]>,
-    place: Place,
-    repeated: bool,
-    form: &'a IosForm,
+fn line_cause<'a>(
+    policy: &'a [u8],
+    known: &Known<'a>,
+    place: &Place,
+    line: &'a MapLine,
 ) -> Option<Cause>
-    ensures { result ≡ fault_given policy.now (has_name defined.now) (has_name named.now) place repeated form.now }
+    ensures { result ≡ line_cause_given (known_facts policy.now known.now) place.now.head (has_kind place.now.kinds) line.now }
 {
-    if !is_reached(policy, named, place.inside, form) {
-        return None;
-    }
-    let missing = names_missing(defined, form);
-    cause_of(
-        has_no_form(form),
-        repeated,
-        missing,
-        repeats_kind(place, form),
-    )
+    let missing = lists_missing(policy, known, line);
+    let again = !is_description_line(line) && has_kind(&place.kinds, line);
+    let entry = entry_faults(policy, known, place.head, line);
+    let exact = is_exact_expanded(policy, known, line);
+    line_cause_of(missing, again, entry, exact)
 }
 
-pub(crate) fn place_behind(policy: &[u8], place: Place, form: &IosForm) -> Place
-    ensures { result ≡ place_behind policy.now place form.now }
+fn line_fault<'a>(
+    policy: &'a [u8],
+    known: &Known<'a>,
+    place: &Place,
+    form: &'a IosForm,
+) -> Option<Cause>
+    ensures { result ≡ line_fault_given (known_facts policy.now known.now) place.now.head (has_kind place.now.kinds) form.now }
 {
-    if is_line(form) {
-        return Place {
-            inside: place.inside,
-            has_match: place.has_match || is_match_prefix(form),
-            has_set: place.has_set || is_set_local_preference(form),
-        };
+    match form {
+        IosForm::Line(line) => line_cause(policy, known, place, line),
+        _ => None,
     }
-    Place {
-        inside: heads(policy, form),
-        has_match: false,
-        has_set: false,
+}
+
+fn cause_of(unknown: bool, second: bool, repeated: bool, line: Option<Cause>) -> Option<Cause>
+    ensures { result ≡ cause_of unknown second repeated line }
+{
+    if unknown {
+        return Some(Cause::UnknownForm);
     }
+    if second {
+        return Some(Cause::DefinedTwice);
+    }
+    if repeated {
+        return Some(Cause::SequenceTwice);
+    }
+    line
+}
+
+// Whether a community list was of the other sort alone before an item, and whether a number was there.
+#[derive(Clone, Copy)]
+pub(crate) struct Repeats {
+    pub(crate) sort: bool,
+    pub(crate) number: bool,
+}
+
+pub(crate) fn fault_of<'a>(
+    policy: &'a [u8],
+    known: &Known<'a>,
+    taken: Forms,
+    place: &Place,
+    repeats: Repeats,
+    form: &'a IosForm,
+) -> Option<Cause>
+    ensures { result ≡ fault_given taken policy.now (known_facts policy.now known.now) place.now.inside place.now.head (has_kind place.now.kinds) repeats.sort repeats.number form.now }
+{
+    if !is_reached(policy, known, place.inside, form) {
+        return None;
+    }
+    let line = line_fault(policy, known, place, form);
+    cause_of(is_unknown(taken, form), repeats.sort, repeats.number, line)
 }

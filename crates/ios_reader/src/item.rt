@@ -1,4 +1,6 @@
-use route_types::{PrefixRange, Row, Span};
+use policy_text::Span;
+use prefix_sets::PrefixEntry;
+use route_types::{Address, Community, Family, Origin, Rect, Row};
 
 /// A statement of a policy, and where it stands.
 #[derive(Debug, Drop)]
@@ -7,27 +9,57 @@ pub struct IosItem {
     pub span: Span,
 }
 
-/// What a statement says (Cisco IOS IP Routing command references).
+/// What a statement says (Cisco IOS IP Routing: BGP and Protocol-Independent command references).
 #[derive(Debug, Drop)]
 pub enum IosForm {
-    /// `ip prefix-list N seq S permit P [ge G] [le E]`
-    PrefixEntry(PrefixEntry),
+    /// `ip prefix-list N [seq S] permit|deny P [ge G] [le E]`
+    PrefixEntry(PrefixListEntry),
+    /// `ip prefix-list N [seq S] description W..`: it has no meaning, and no list is there by it.
+    PrefixDescription(PrefixDescription),
+    /// `ip community-list n|standard N|expanded N permit|deny ..`
+    CommunityEntry(CommunityListEntry),
     /// `route-map N permit|deny S`
     MapHeader(MapHeader),
-    /// `match ip address prefix-list N`: the names, one of which has to hold.
-    MatchPrefix(Row<Row<u8>>),
-    /// `set local-preference n`
-    SetLocalPreference(u32),
+    /// A line of the entry that is open.
+    Line(MapLine),
     /// A statement of no known form.
     Other(OtherItem),
 }
 
-/// An entry of a prefix list that permits. A list name of digits alone has no leading zeros here.
+/// An entry of a prefix list. A list name of digits alone has no leading zeros here.
 #[derive(Debug, Drop)]
-pub struct PrefixEntry {
+pub struct PrefixListEntry {
     pub list: Row<u8>,
+    /// Whether the number is written. One that isn't is 5 more than the greatest number that the list
+    /// has before it in the text.
+    pub has_seq: bool,
+    /// The place of the entry in its list, 0 to 2^64 - 1.
     pub number: u64,
-    pub range: PrefixRange,
+    pub entry: PrefixEntry,
+}
+
+/// A description of a prefix list.
+#[derive(Debug, Drop)]
+pub struct PrefixDescription {
+    pub family: Family,
+    pub list: Row<u8>,
+}
+
+/// An entry of a community list. A list name of digits alone has no leading zeros here.
+#[derive(Debug, Drop)]
+pub struct CommunityListEntry {
+    pub list: Row<u8>,
+    pub permit: bool,
+    pub shape: CommunityShape,
+}
+
+/// What an entry of a community list asks for.
+#[derive(Debug, Drop)]
+pub enum CommunityShape {
+    /// All of these communities: an entry of a standard list.
+    Standard(Row<Community>),
+    /// Some community of this rectangle: an entry of an expanded list.
+    Expanded(Rect),
 }
 
 /// The first line of an entry of a route-map.
@@ -35,7 +67,64 @@ pub struct PrefixEntry {
 pub struct MapHeader {
     pub map: Row<u8>,
     pub permit: bool,
+    /// The place of the entry in its map, 0 to 2^64 - 1.
     pub number: u64,
+}
+
+/// A line of an entry of a route-map.
+#[derive(Debug, Drop)]
+pub enum MapLine {
+    /// `match ip address prefix-list N..`
+    MatchPrefix(PrefixMatch),
+    /// `match ip next-hop prefix-list N..`
+    MatchNextHop(PrefixMatch),
+    /// `match community N.. [exact-match]`
+    MatchCommunity(CommunityMatch),
+    /// `match metric n..`
+    MatchMetric(Row<u32>),
+    /// `set local-preference n`
+    SetLocalPreference(u32),
+    /// `set metric n`
+    SetMetric(u32),
+    /// `set weight n`
+    SetWeight(u16),
+    /// `set as-path prepend n..`: the numbers as they will stand before the path.
+    SetPrepend(Row<u32>),
+    /// `set origin igp|incomplete`
+    SetOrigin(Origin),
+    /// `set ip next-hop A`
+    SetNextHop(Address),
+    /// `set community C.. [additive]`, `set community none`
+    SetCommunity(CommunitySetting),
+    /// `set comm-list N delete`
+    DeleteCommunities(Row<u8>),
+    /// `continue`, `continue S`
+    Continue(Option<u64>),
+    /// `description W..`: it has no meaning.
+    Description,
+}
+
+/// The prefix lists that a line names; one of them has to hold.
+#[derive(Debug, Drop)]
+pub struct PrefixMatch {
+    pub family: Family,
+    pub lists: Row<Row<u8>>,
+}
+
+/// The community lists that a line names; one of them has to hold.
+#[derive(Debug, Drop)]
+pub struct CommunityMatch {
+    pub lists: Row<Row<u8>>,
+    /// Whether the communities of a route have to be exactly those of an entry.
+    pub exact: bool,
+}
+
+/// The communities that a line sets, none for `none`.
+#[derive(Debug, Drop)]
+pub struct CommunitySetting {
+    pub communities: Row<Community>,
+    /// Whether they are added to those that the route has, and not put in their place.
+    pub additive: bool,
 }
 
 /// A statement of no known form: what it would be, and the name that it stands under, if any.
@@ -49,7 +138,7 @@ pub struct OtherItem {
 #[derive(Clone, Copy, Debug, PartialEq, Eq)]
 pub enum ItemSort {
     /// It starts with `ip prefix-list`.
-    PrefixList,
+    PrefixList(Family),
     /// It starts with `ip community-list`.
     CommunityList,
     /// It starts with `ip as-path access-list`.
@@ -58,4 +147,14 @@ pub enum ItemSort {
     Map,
     /// A line of the open entry.
     Line,
+}
+
+/// The forms that a caller takes; a statement of another form is of an unknown one to it.
+#[derive(Clone, Copy, Debug, PartialEq, Eq)]
+pub enum Forms {
+    /// All forms.
+    All,
+    /// The forms that translation takes for now: permitting prefix entries with a written number, map
+    /// headers, descriptions, `match ip address prefix-list` with one name, and `set local-preference`.
+    First,
 }

@@ -1,6 +1,6 @@
 ghost use Rattle.std.specs.Prelude.{◌≡◌, ℕ, List, Some};
 ghost use Rattle.ios_reader.specs.Spelling.{Spell};
-ghost use Rattle.ios_reader.specs.Profile.{sort_of_form};
+ghost use Rattle.ios_reader.specs.Sorts.{sort_of_form};
 ghost use Rattle.ios_reader.specs.Tree.{known_form};
 ghost use Rattle.ios_reader.specs.declared.item.IosForm.{IosForm};
 ghost use Rattle.ios_reader.specs.declared.item.ItemSort.{ItemSort};

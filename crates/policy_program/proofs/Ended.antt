@@ -1,186 +1,226 @@
 -- What follows from how a run ends: the headline, exactness and completeness.
-use Rattle.std.proofs.Common.{◌≡◌, ◌⊎◌, inl, inr, refl, sym, ap, subst, ◌∙◌, ℕ, ◌<◌, ◌≤◌, Bool, true, false, List, length, Option, Some, None, arith}
-use Rattle.std.specs.Prelude.{nat_le, IfSome, IsSomeAnd}
+use Rattle.std.proofs.Common.{◌≡◌, ◌⊎◌, inl, inr, refl, sym, ap, subst, ◌∙◌, ℕ, ◌<◌, ◌≤◌, Bool, true, false, List, length, Option, Some, None, Result, Ok, Err, arith}
+use Rattle.std.specs.Prelude.{nat_le, IfSome, IsSomeAnd, is_ok}
 use Rattle.std.proofs.lemmas.Bool.Decides.{nat_tests}
-use Rattle.route_types.specs.declared.statement.Span.{Span}
-use Rattle.route_types.specs.declared.fault.Cause.{Cause}
+use Rattle.policy_text.specs.declared.statement.Span.{Span}
+use Rattle.policy_text.specs.declared.fault.Cause.{Cause}
+use Rattle.route_types.specs.Route.{RouteParts}
+use Rattle.route_types.specs.RouteText.{SpellsRoute}
+use Rattle.route_types.specs.RouteRead.{route_in}
+use Rattle.route_types.proofs.RouteSpelled.{route_found, route_again}
 use Rattle.ios_reader.specs.Tree.{ios_tree}
-use Rattle.ios_reader.specs.Profile.{InProfile, is_defined, first_fault}
-use Rattle.policy_outside.specs.Shelf.{FaultRose}
-use Rattle.policy_outside.specs.Texts.{Texts, IsTold, IsLonger}
-use Rattle.policy_program.specs.Command.{Request, Accepts, IsRefused}
-use Rattle.policy_program.specs.Translation.{IsTranslation, IsNoPolicy, IsFirstFault}
-use Rattle.policy_program.specs.Ends.{Shelves, Sinks, IsSource, EndsAs, most_bytes}
-use Rattle.policy_program.specs.Headline.{WritesTranslation}
-use Rattle.policy_program.specs.Exact.{TellsText, TellsNone, first_status, right_status, IsRight, IsExact}
-use Rattle.policy_program.specs.Complete.{IsComplete}
-use Rattle.policy_program.proofs.Spelled.{accepted_once}
+use Rattle.ios_reader.specs.Profile.{first_fault_within}
+use Rattle.policy_outside.specs.Texts.{Texts, text_at, IsTold, IsLonger}
+use Rattle.policy_program.specs.Command.{Request, Translate, Judge, JudgeParts, Accepts, IsRefused}
+use Rattle.policy_program.specs.Checked.{IsNoPolicy, IsFirstFault, IsSound}
+use Rattle.policy_program.specs.Judgement.{IsNotRoute}
+use Rattle.policy_program.specs.Requests.{policy_of, file_of, second_file, taken_by, IsResult, Serves, HasResult}
+use Rattle.policy_program.specs.Ends.{Shelves, Sinks, IsTextOf, IsSecondOf, IsGiven, IsFetched, EndsAs, most_bytes}
+use Rattle.policy_program.specs.Headline.{WritesResult}
+use Rattle.policy_program.specs.Exact.{fitting, fetched, second_text, answer_status, serves, given_status, first_status, right_status, IsRight, IsExact}
+use Rattle.policy_program.specs.Complete.{IsComplete, Completes}
+use Rattle.policy_program.proofs.Words.{accepted_once}
 use Rattle.policy_program.specs.declared.status.Status.{Status}
-use Rattle.policy_program.specs.declared.status.Status.TheVariants.{Done, Usage, NoPolicy, Outside, FetchFailed, TooLong, WriteFailed, Memory}
+use Rattle.policy_program.specs.declared.status.Status.TheVariants.{Done, Usage, NoPolicy, Outside, FetchFailed, TooLong, WriteFailed, Memory, RouteRefused}
 
--- a run that is done wrote a right translation
-pub headline : (words : List (List ℕ)) (shelf : Shelves) (out err : Sinks) (status : Status) → EndsAs words shelf out err status → status ≡ Done → WritesTranslation words shelf out
+-- a run that is done wrote a right result
+pub headline : (words : List (List ℕ)) (shelf : Shelves) (out err : Sinks) (status : Status) → EndsAs words shelf out err status → status ≡ Done → WritesResult words shelf out
 headline words shelf out err status ends is =
     let done = subst (EndsAs words shelf out err) is ends in
-    record { request = done.request; accepted = done.accepted; source = done.source; is_source = done.is_source; target = done.target; right = done.right; received = done.written }
+    record { request = done.request; accepted = done.accepted; source = done.source; second = done.second; given = done.given; text = done.text; right = done.right; received = done.written }
 
--- what is told under a file is one text
-told_once : (texts : Option Texts) (file source text : List ℕ) → TellsText texts file source → IsTold texts file text → text ≡ source
-told_once None file source text tells told = absurd tells
-told_once (Some texts) file source text tells told = let same : Some text ≡ Some source = sym told ∙ tells in cc
+-- ---- what the shelf tells
 
-told_longer : (texts : Option Texts) (file source : List ℕ) → TellsText texts file source → IfSome texts (λ ts. IsLonger ts file most_bytes) → most_bytes < length source
-told_longer None file source tells longer = absurd tells
-told_longer (Some texts) file source tells longer = subst (λ (o : Option (List ℕ)). IsSomeAnd o (λ text. most_bytes < length text)) tells longer
+fits : (text : List ℕ) → length text ≤ most_bytes → nat_le (length text) most_bytes ≡ true
+fits text within = grind (arith, nat_tests)
 
-none_longer : (texts : Option Texts) (file : List ℕ) → TellsNone texts file → IfSome texts (λ ts. IsLonger ts file most_bytes) → ⊥
-none_longer None file tells longer = absurd tells
-none_longer (Some texts) file tells longer = subst (λ (o : Option (List ℕ)). IsSomeAnd o (λ text. most_bytes < length text)) tells longer
+fits_not : (text : List ℕ) → most_bytes < length text → nat_le (length text) most_bytes ≡ false
+fits_not text longer = grind (arith, nat_tests)
 
-none_told : (texts : Option Texts) (file text : List ℕ) → TellsNone texts file → IsTold texts file text → ⊥
-none_told None file text tells told = absurd tells
-none_told (Some texts) file text tells told = let no : Some text ≡ None = sym told ∙ tells in absurd cc
+-- a text that is given is fetched
+text_fetched : (shelf : Shelves) (texts : Texts) (file text : List ℕ) → shelf.before.texts ≡ Some texts → IsTextOf shelf file text → fetched (text_at texts file) ≡ Ok text
+text_fetched shelf texts file text tells is =
+    let told : text_at texts file ≡ Some text = subst (λ (o : Option Texts). IsTold o file text) tells is.told in
+    ap (λ (o : Option (List ℕ)). fetched o) told ∙ ap (λ (t : Bool). fitting t text) (fits text is.within)
 
--- the right status where its cause stands
-fits : (source : List ℕ) → length source ≤ most_bytes → nat_le (length source) most_bytes ≡ true
-fits source within = grind (arith, nat_tests)
+second_fetched : (shelf : Shelves) (texts : Texts) (file : Option (List ℕ)) (text : List ℕ) → shelf.before.texts ≡ Some texts → IsSecondOf shelf file text → second_text texts file ≡ Ok text
+second_fetched shelf texts None text tells is = ap (λ (t : List ℕ). Ok t) (sym is)
+second_fetched shelf texts (Some file) text tells is = text_fetched shelf texts file text tells is
 
-fits_not : (source : List ℕ) → most_bytes < length source → nat_le (length source) most_bytes ≡ false
-fits_not source longer = grind (arith, nat_tests)
+-- a text that is longer is not
+long_fetched : (found : Option (List ℕ)) → IsSomeAnd found (λ text. most_bytes < length text) → fetched found ≡ Err TooLong
+long_fetched None longer = absurd longer
+long_fetched (Some text) longer = ap (λ (t : Bool). fitting t text) (fits_not text longer)
 
-right_too_long : (q : Request) (source : List ℕ) → most_bytes < length source → right_status q source ≡ TooLong
+longer_fetched : (shelf : Shelves) (texts : Texts) (file : List ℕ) → shelf.before.texts ≡ Some texts → IfSome shelf.before.texts (λ ts. IsLonger ts file most_bytes) → fetched (text_at texts file) ≡ Err TooLong
+longer_fetched shelf texts file tells longer =
+    long_fetched (text_at texts file) (subst (λ (o : Option Texts). IfSome o (λ ts. IsLonger ts file most_bytes)) tells longer)
+
+-- ---- the right status where its cause stands
+
+right_given : (shelf : Shelves) (texts : Texts) (q : Request) (source second : List ℕ) (status : Status) → shelf.before.texts ≡ Some texts → IsGiven shelf q source second
+    → given_status q source second ≡ status → right_status texts q ≡ status
 unfolding right_status
-right_too_long q source longer = ap (λ (t : Bool). first_status t (is_defined q.policy (ios_tree source)) (first_fault q.policy (ios_tree source))) (fits_not source longer)
+right_given shelf texts q source second status tells given is =
+    ap (λ (r : Result (List ℕ) Status). first_status q r (second_text texts (second_file q))) (text_fetched shelf texts (file_of q) source tells given.is_source)
+    ∙ ap (λ (r : Result (List ℕ) Status). first_status q (Ok source) r) (second_fetched shelf texts (second_file q) second tells given.is_second)
+    ∙ is
 
-right_no_policy : (q : Request) (source : List ℕ) → length source ≤ most_bytes → IsNoPolicy source q.policy → right_status q source ≡ NoPolicy
+right_long : (shelf : Shelves) (texts : Texts) (q : Request) (file : List ℕ) → shelf.before.texts ≡ Some texts → IsFetched shelf q file
+    → fetched (text_at texts file) ≡ Err TooLong → right_status texts q ≡ TooLong
 unfolding right_status
-right_no_policy q source within none =
-    ap (λ (t : Bool). first_status t (is_defined q.policy (ios_tree source)) (first_fault q.policy (ios_tree source))) (fits source within)
-    ∙ ap (λ (t : Bool). first_status true t (first_fault q.policy (ios_tree source))) none
+right_long shelf texts q file tells (inl is) long =
+    ap (λ (r : Result (List ℕ) Status). first_status q r (second_text texts (second_file q))) (ap (λ (f : List ℕ). fetched (text_at texts f)) (sym is) ∙ long)
+right_long shelf texts q file tells (inr turn) long =
+    ap (λ (r : Result (List ℕ) Status). first_status q r (second_text texts (second_file q))) (text_fetched shelf texts (file_of q) turn.source tells turn.is_source)
+    ∙ ap (λ (r : Result (List ℕ) Status). first_status q (Ok turn.source) r) (ap (λ (o : Option (List ℕ)). second_text texts o) turn.second ∙ long)
 
-right_outside : (q : Request) (source : List ℕ) (span : Span) (cause : Cause) → length source ≤ most_bytes → IsFirstFault source q.policy span cause → right_status q source ≡ Outside
-unfolding right_status
-right_outside q source span cause within fault =
-    ap (λ (t : Bool). first_status t (is_defined q.policy (ios_tree source)) (first_fault q.policy (ios_tree source))) (fits source within)
-    ∙ ap (λ (t : Bool). first_status true t (first_fault q.policy (ios_tree source))) fault.defined
-    ∙ ap (λ (o : Option (Span × Cause)). first_status true true o) fault.first
+no_policy_status : (q : Request) (source second : List ℕ) → IsNoPolicy source (policy_of q) → given_status q source second ≡ NoPolicy
+unfolding given_status
+no_policy_status q source second none =
+    ap (λ (t : Bool). answer_status t (first_fault_within (taken_by q) (policy_of q) (ios_tree source)) (serves q second)) none
 
-right_done : (q : Request) (source : List ℕ) → length source ≤ most_bytes → InProfile q.policy (ios_tree source) → right_status q source ≡ Done
-unfolding right_status
-right_done q source within profile =
-    ap (λ (t : Bool). first_status t (is_defined q.policy (ios_tree source)) (first_fault q.policy (ios_tree source))) (fits source within)
-    ∙ ap (λ (t : Bool). first_status true t (first_fault q.policy (ios_tree source))) profile.defined
-    ∙ ap (λ (o : Option (Span × Cause)). first_status true true o) profile.sound
+outside_status : (q : Request) (source second : List ℕ) (span : Span) (cause : Cause) → IsFirstFault (taken_by q) source (policy_of q) span cause → given_status q source second ≡ Outside
+unfolding given_status
+outside_status q source second span cause fault =
+    ap (λ (t : Bool). answer_status t (first_fault_within (taken_by q) (policy_of q) (ios_tree source)) (serves q second)) fault.defined
+    ∙ ap (λ (o : Option (Span × Cause)). answer_status true o (serves q second)) fault.first
 
--- the request and the source of an end are those that are asked about
-pub record IsAbout (q p : Request) (source text : List ℕ) : Type 0 where
-  pub same_request : p ≡ q
-  pub same_source : text ≡ source
+sound_status : (q : Request) (source second : List ℕ) (t : Bool) → IsSound (taken_by q) source (policy_of q) → serves q second ≡ t → given_status q source second ≡ answer_status true None t
+unfolding given_status
+sound_status q source second t sound is =
+    ap (λ (t : Bool). answer_status t (first_fault_within (taken_by q) (policy_of q) (ios_tree source)) (serves q second)) sound.defined
+    ∙ ap (λ (o : Option (Span × Cause)). answer_status true o (serves q second)) sound.sound
+    ∙ ap (λ (t : Bool). answer_status true None t) is
 
-about : (words : List (List ℕ)) (shelf : Shelves) (q p : Request) (source text : List ℕ) → Accepts words q → TellsText shelf.before.texts q.file source → Accepts words p → IsSource shelf p text → IsAbout q p source text
-about words shelf q p source text accepted tells accepts is_source =
-    let same = accepted_once words p q accepts accepted in
-    record {
-      same_request = same;
-      same_source = told_once shelf.before.texts q.file source text tells (subst (λ (r : Request). IsTold shelf.before.texts r.file text) same is_source.told);
-    }
+-- a text that spells no route has a bad line
+no_route : (text : List ℕ) (found : Result RouteParts ℕ) → route_in text ≡ found → ((r : RouteParts) → SpellsRoute text r → ⊥) → is_ok found ≡ false
+no_route text (Ok r) is none = absurd (none r (route_found text r is))
+no_route text (Err line) is none = refl
 
-moved : (q p : Request) (source text : List ℕ) (status : Status) → IsAbout q p source text → right_status p text ≡ status → right_status q source ≡ status
-moved q p source text status a is =
-    subst (λ (r : Request). right_status r source ≡ status) a.same_request (subst (λ (t : List ℕ). right_status p t ≡ status) a.same_source is)
+refused_status : (j : JudgeParts) (source second : List ℕ) (line : ℕ) → IsNotRoute source j.policy second line → given_status (Judge j) source second ≡ RouteRefused
+refused_status j source second line refused =
+    sound_status (Judge j) source second false (record { defined = refused.in_profile.defined; sound = refused.in_profile.sound })
+    (no_route second (route_in second) refl refused.none)
+
+serving : (q : Request) (second : List ℕ) → Serves q second → serves q second ≡ true
+serving (Translate t) second is = refl
+serving (Judge j) second is = ap (λ (r : Result RouteParts ℕ). is_ok r) (route_again second is.0 is.1)
+
+done_status : (q : Request) (source second : List ℕ) → HasResult q source second → given_status q source second ≡ Done
+done_status q source second has = sound_status q source second true has.sound (serving q second has.serves)
+
+-- what has a right text has a result
+has_result : (q : Request) (source second text : List ℕ) → IsResult q source second text → HasResult q source second
+has_result (Translate t) source second text right = record { sound = right.taken; serves = tt }
+has_result (Judge j) source second text right = record { sound = record { defined = right.in_profile.defined; sound = right.in_profile.sound }; serves = (right.route, right.spelled) }
+
+-- ---- exactness
+
+-- the status of a request that ended so is right for the one that is asked about, which is the same
+moved : (words : List (List ℕ)) (texts : Texts) (p q : Request) (status : Status) → Accepts words p → Accepts words q → right_status texts p ≡ status → right_status texts q ≡ status
+moved words texts p q status one other is = subst (λ (r : Request). right_status texts r ≡ status) (accepted_once words p q one other) is
 
 -- every status is right, but for faults of the outside and want of memory
 ends_right : (words : List (List ℕ)) (shelf : Shelves) (out err : Sinks) (status : Status) → EndsAs words shelf out err status
-    → (q : Request) (source : List ℕ) → Accepts words q → TellsText shelf.before.texts q.file source → IsRight (right_status q source) status
-ends_right words shelf out err Done ends q source accepted tells =
-    moved q ends.request source ends.source Done (about words shelf q ends.request source ends.source accepted tells ends.accepted ends.is_source)
-    (right_done ends.request ends.source ends.is_source.within ends.right.source_in_profile)
-ends_right words shelf out err Usage ends q source accepted tells = absurd (ends.refused q accepted)
-ends_right words shelf out err NoPolicy ends q source accepted tells =
-    moved q ends.request source ends.source NoPolicy (about words shelf q ends.request source ends.source accepted tells ends.accepted ends.is_source)
-    (right_no_policy ends.request ends.source ends.is_source.within ends.cause)
-ends_right words shelf out err Outside ends q source accepted tells =
-    moved q ends.request source ends.source Outside (about words shelf q ends.request source ends.source accepted tells ends.accepted ends.is_source)
-    (right_outside ends.request ends.source ends.span ends.fault ends.is_source.within ends.cause)
-ends_right words shelf out err FetchFailed ends q source accepted tells = tt
-ends_right words shelf out err TooLong ends q source accepted tells =
-    let same = accepted_once words ends.request q ends.accepted accepted in
-    right_too_long q source (told_longer shelf.before.texts q.file source tells (subst (λ (r : Request). IfSome shelf.before.texts (λ ts. IsLonger ts r.file most_bytes)) same ends.longer))
-ends_right words shelf out err WriteFailed ends q source accepted tells =
-    moved q ends.request source ends.source Done (about words shelf q ends.request source ends.source accepted tells ends.accepted ends.is_source)
-    (right_done ends.request ends.source ends.is_source.within ends.right.source_in_profile)
-ends_right words shelf out err Memory ends q source accepted tells = tt
-ends_right words shelf out err _ ends q source accepted tells = absurd ends
+    → (texts : Texts) → shelf.before.texts ≡ Some texts → (q : Request) → Accepts words q → IsRight (right_status texts q) status
+ends_right words shelf out err Done ends texts tells q accepted =
+    moved words texts ends.request q Done ends.accepted accepted
+    (right_given shelf texts ends.request ends.source ends.second Done tells ends.given
+    (done_status ends.request ends.source ends.second (has_result ends.request ends.source ends.second ends.text ends.right)))
+ends_right words shelf out err Usage ends texts tells q accepted = absurd (ends.refused q accepted)
+ends_right words shelf out err NoPolicy ends texts tells q accepted =
+    moved words texts ends.request q NoPolicy ends.accepted accepted
+    (right_given shelf texts ends.request ends.source ends.second NoPolicy tells ends.given (no_policy_status ends.request ends.source ends.second ends.cause))
+ends_right words shelf out err Outside ends texts tells q accepted =
+    moved words texts ends.request q Outside ends.accepted accepted
+    (right_given shelf texts ends.request ends.source ends.second Outside tells ends.given
+    (outside_status ends.request ends.source ends.second ends.span ends.fault ends.cause))
+ends_right words shelf out err FetchFailed ends texts tells q accepted = tt
+ends_right words shelf out err TooLong ends texts tells q accepted =
+    moved words texts ends.request q TooLong ends.accepted accepted
+    (right_long shelf texts ends.request ends.file tells ends.fetched (longer_fetched shelf texts ends.file tells ends.longer))
+ends_right words shelf out err WriteFailed ends texts tells q accepted =
+    moved words texts ends.request q Done ends.accepted accepted
+    (right_given shelf texts ends.request ends.source ends.second Done tells ends.given
+    (done_status ends.request ends.source ends.second (has_result ends.request ends.source ends.second ends.text ends.right)))
+ends_right words shelf out err Memory ends texts tells q accepted = tt
+ends_right words shelf out err RouteRefused ends texts tells q accepted =
+    moved words texts (Judge ends.asked) q RouteRefused ends.accepted accepted
+    (right_given shelf texts (Judge ends.asked) ends.source ends.second RouteRefused tells ends.given
+    (refused_status ends.asked ends.source ends.second ends.number ends.cause))
+ends_right words shelf out err _ ends texts tells q accepted = absurd ends
 
--- words that are refused end in Usage
-ends_refused : (words : List (List ℕ)) (shelf : Shelves) (out err : Sinks) (status : Status) → EndsAs words shelf out err status → IsRefused words → status ≡ Usage
+where_told : (texts : Option Texts) (P : Texts → Type 0) → ((ts : Texts) → texts ≡ Some ts → P ts) → IfSome texts P
+where_told None P all = tt
+where_told (Some ts) P all = all ts refl
+
+-- words that are refused end in Usage, or for want of memory
+ends_refused : (words : List (List ℕ)) (shelf : Shelves) (out err : Sinks) (status : Status) → EndsAs words shelf out err status → IsRefused words → (status ≡ Usage) ⊎ (status ≡ Memory)
 ends_refused words shelf out err Done ends refused = absurd (refused ends.request ends.accepted)
-ends_refused words shelf out err Usage ends refused = refl
+ends_refused words shelf out err Usage ends refused = inl refl
 ends_refused words shelf out err NoPolicy ends refused = absurd (refused ends.request ends.accepted)
 ends_refused words shelf out err Outside ends refused = absurd (refused ends.request ends.accepted)
 ends_refused words shelf out err FetchFailed ends refused = absurd (refused ends.request ends.accepted)
 ends_refused words shelf out err TooLong ends refused = absurd (refused ends.request ends.accepted)
 ends_refused words shelf out err WriteFailed ends refused = absurd (refused ends.request ends.accepted)
-ends_refused words shelf out err Memory ends refused = absurd (refused ends.request ends.accepted)
+ends_refused words shelf out err Memory ends refused = inr refl
+ends_refused words shelf out err RouteRefused ends refused = absurd (refused (Judge ends.asked) ends.accepted)
 ends_refused words shelf out err _ ends refused = absurd ends
-
--- a file under which nothing is told is not read
-no_source : (words : List (List ℕ)) (shelf : Shelves) (q p : Request) (text : List ℕ) → Accepts words q → TellsNone shelf.before.texts q.file → Accepts words p → IsSource shelf p text → ⊥
-no_source words shelf q p text accepted tells accepts is_source =
-    none_told shelf.before.texts q.file text tells (subst (λ (r : Request). IsTold shelf.before.texts r.file text) (accepted_once words p q accepts accepted) is_source.told)
-
-ends_missing : (words : List (List ℕ)) (shelf : Shelves) (out err : Sinks) (status : Status) → EndsAs words shelf out err status
-    → (q : Request) → Accepts words q → TellsNone shelf.before.texts q.file → (status ≡ FetchFailed) ⊎ (status ≡ Memory)
-ends_missing words shelf out err Done ends q accepted tells = absurd (no_source words shelf q ends.request ends.source accepted tells ends.accepted ends.is_source)
-ends_missing words shelf out err Usage ends q accepted tells = absurd (ends.refused q accepted)
-ends_missing words shelf out err NoPolicy ends q accepted tells = absurd (no_source words shelf q ends.request ends.source accepted tells ends.accepted ends.is_source)
-ends_missing words shelf out err Outside ends q accepted tells = absurd (no_source words shelf q ends.request ends.source accepted tells ends.accepted ends.is_source)
-ends_missing words shelf out err FetchFailed ends q accepted tells = inl refl
-ends_missing words shelf out err TooLong ends q accepted tells =
-    absurd (none_longer shelf.before.texts q.file tells (subst (λ (r : Request). IfSome shelf.before.texts (λ ts. IsLonger ts r.file most_bytes)) (accepted_once words ends.request q ends.accepted accepted) ends.longer))
-ends_missing words shelf out err WriteFailed ends q accepted tells = absurd (no_source words shelf q ends.request ends.source accepted tells ends.accepted ends.is_source)
-ends_missing words shelf out err Memory ends q accepted tells = inr refl
-ends_missing words shelf out err _ ends q accepted tells = absurd ends
 
 -- the statuses of a run are exact
 pub exact : (words : List (List ℕ)) (shelf : Shelves) (out err : Sinks) (status : Status) → EndsAs words shelf out err status → IsExact words shelf.before.texts status
 exact words shelf out err status ends = record {
-  usage = (λ is. (subst (EndsAs words shelf out err) is ends).refused, ends_refused words shelf out err status ends);
-  right = ends_right words shelf out err status ends;
-  missing = ends_missing words shelf out err status ends;
+  usage = λ is. (subst (EndsAs words shelf out err) is ends).refused;
+  refused = ends_refused words shelf out err status ends;
+  right = where_told shelf.before.texts (λ ts. (q : Request) → Accepts words q → IsRight (right_status ts q) status) (ends_right words shelf out err status ends);
 }
 
-wrote : (q p : Request) (source text target : List ℕ) → IsAbout q p source text → IsTranslation text p.policy target p.name → IsTranslation source q.policy target q.name
-wrote q p source text target a right =
-    subst (λ (r : Request). IsTranslation source r.policy target r.name) a.same_request (subst (λ (t : List ℕ). IsTranslation t p.policy target p.name) a.same_source right)
+-- ---- completeness
 
-in_profile : (q p : Request) (source text : List ℕ) → IsAbout q p source text → InProfile q.policy (ios_tree source) → InProfile p.policy (ios_tree text)
-in_profile q p source text a profile =
-    subst (λ (r : Request). InProfile r.policy (ios_tree text)) (sym a.same_request) (subst (λ (t : List ℕ). InProfile q.policy (ios_tree t)) (sym a.same_source) profile)
+-- the texts of a request are the only ones
+same_text : (shelf : Shelves) (texts : Texts) (file one other : List ℕ) → shelf.before.texts ≡ Some texts → IsTextOf shelf file one → IsTextOf shelf file other → one ≡ other
+same_text shelf texts file one other tells is too =
+    let both : Ok one ≡ Ok other = sym (text_fetched shelf texts file one tells is) ∙ text_fetched shelf texts file other tells too in
+    cc
 
-not_both : (found : Option (Span × Cause)) (fault : Span × Cause) → found ≡ None → found ≡ Some fault → ⊥
-not_both None fault none some = absurd cc
-not_both (Some other) fault none some = absurd cc
+same_second : (shelf : Shelves) (texts : Texts) (file : Option (List ℕ)) (one other : List ℕ) → shelf.before.texts ≡ Some texts → IsSecondOf shelf file one → IsSecondOf shelf file other → one ≡ other
+same_second shelf texts file one other tells is too =
+    let both : Ok one ≡ Ok other = sym (second_fetched shelf texts file one tells is) ∙ second_fetched shelf texts file other tells too in
+    cc
 
--- a policy in profile is translated
-pub complete : (words : List (List ℕ)) (shelf : Shelves) (out err : Sinks) (status : Status) → EndsAs words shelf out err status → IsComplete words shelf out status
-complete words shelf out err Done ends q source accepted tells within profile =
-    let a = about words shelf q ends.request source ends.source accepted tells ends.accepted ends.is_source in
-    record { target = ends.target; right = wrote q ends.request source ends.source ends.target a ends.right; received = ends.written }
-complete words shelf out err Usage ends q source accepted tells within profile = ends.refused q accepted
-complete words shelf out err NoPolicy ends q source accepted tells within profile =
-    let there = in_profile q ends.request source ends.source (about words shelf q ends.request source ends.source accepted tells ends.accepted ends.is_source) profile in
-    let no : true ≡ false = sym there.defined ∙ ends.cause in
-    absurd cc
-complete words shelf out err Outside ends q source accepted tells within profile =
-    let there = in_profile q ends.request source ends.source (about words shelf q ends.request source ends.source accepted tells ends.accepted ends.is_source) profile in
-    absurd (not_both (first_fault ends.request.policy (ios_tree ends.source)) (ends.span, ends.fault) there.sound ends.cause.first)
-complete words shelf out err FetchFailed ends q source accepted tells within profile =
-    subst (λ (r : Request). FaultRose shelf.before shelf.now r.file) (accepted_once words ends.request q ends.accepted accepted) ends.fault
-complete words shelf out err TooLong ends q source accepted tells within profile =
+wrote : (q p : Request) (shelf : Shelves) (texts : Texts) (source second one other text : List ℕ) → p ≡ q → shelf.before.texts ≡ Some texts → IsGiven shelf q source second → IsGiven shelf p one other
+    → IsResult p one other text → IsResult q source second text
+wrote q p shelf texts source second one other text same tells given there right =
+    let here : IsGiven shelf q one other = subst (λ (r : Request). IsGiven shelf r one other) same there in
+    subst (λ (s : List ℕ). IsResult q s second text) (same_text shelf texts (file_of q) one source tells here.is_source given.is_source)
+    (subst (λ (s : List ℕ). IsResult q one s text) (same_second shelf texts (second_file q) other second tells here.is_second given.is_second)
+    (subst (λ (r : Request). IsResult r one other text) same right))
+
+-- so ends a run for which Done is right
+completes : (words : List (List ℕ)) (shelf : Shelves) (out err : Sinks) (status : Status) → EndsAs words shelf out err status
+    → (texts : Texts) → shelf.before.texts ≡ Some texts → (q : Request) (source second : List ℕ) → Accepts words q → IsGiven shelf q source second
+    → IsRight Done status → Completes q source second shelf out status
+completes words shelf out err Done ends texts tells q source second accepted given right = record {
+  text = ends.text;
+  right = wrote q ends.request shelf texts source second ends.source ends.second ends.text (accepted_once words ends.request q ends.accepted accepted) tells given ends.given ends.right;
+  received = ends.written;
+}
+completes words shelf out err Usage ends texts tells q source second accepted given right = ends.refused q accepted
+completes words shelf out err FetchFailed ends texts tells q source second accepted given right =
     let same = accepted_once words ends.request q ends.accepted accepted in
-    let longer = told_longer shelf.before.texts q.file source tells (subst (λ (r : Request). IfSome shelf.before.texts (λ ts. IsLonger ts r.file most_bytes)) same ends.longer) in
-    absurd (omega (arith, longer, within))
-complete words shelf out err WriteFailed ends q source accepted tells within profile = ends.fault
-complete words shelf out err Memory ends q source accepted tells within profile = tt
-complete words shelf out err _ ends q source accepted tells within profile = absurd ends
+    record { file = ends.file; fetched = subst (λ (r : Request). IsFetched shelf r ends.file) same ends.fetched; fault = ends.fault }
+completes words shelf out err WriteFailed ends texts tells q source second accepted given right = ends.fault
+completes words shelf out err Memory ends texts tells q source second accepted given right = tt
+completes words shelf out err NoPolicy ends texts tells q source second accepted given right = absurd cc
+completes words shelf out err Outside ends texts tells q source second accepted given right = absurd cc
+completes words shelf out err TooLong ends texts tells q source second accepted given right = absurd cc
+completes words shelf out err RouteRefused ends texts tells q source second accepted given right = absurd cc
+completes words shelf out err _ ends texts tells q source second accepted given right = absurd ends
+
+-- a request that has a result gets it
+pub complete : (words : List (List ℕ)) (shelf : Shelves) (out err : Sinks) (status : Status) → EndsAs words shelf out err status → IsComplete words shelf out status
+complete words shelf out err status ends texts tells q source second accepted given has =
+    completes words shelf out err status ends texts tells q source second accepted given
+    (subst (λ (right : Status). IsRight right status) (right_given shelf texts q source second Done tells given (done_status q source second has))
+    (ends_right words shelf out err status ends texts tells q accepted))

@@ -5,13 +5,22 @@ pub mod SetLaws
 pub mod PlanLaws
 pub mod WriteLaws
 pub mod Ranges
+pub mod InOrder
 pub mod PlainTree
+pub mod Taken
+pub mod TakenLists
 pub mod PlainEntries
-pub mod Ordered
 pub mod IosMeaning
 pub mod WholeLaws
-pub mod Spelled
+mod WordExamples
+pub mod Causes
+pub mod ClapParse
+pub mod ClapRows
+pub mod ClapValues
+pub mod OnLiterals
+pub mod Words
 pub mod Told
+pub mod Judged
 pub mod Ended
 pub mod Right
 pub mod RunExamples

@@ -9,8 +9,8 @@ use Rattle.std.specs.declared.alloc.Global.{Global}
 use Rattle.std.proofs.lemmas.Slice.Eq.{bytes_eq-Decides}
 use Rattle.std.proofs.lemmas.Map.Text.{btree_map_updates_str}
 use Rattle.std.proofs.lemmas.List.{append-nil}
-use Rattle.route_types.specs.Range.{RangeParts}
-use Rattle.ios_reader.specs.declared.item.PrefixEntry.{PrefixEntry as ListEntry}
+use Rattle.prefix_sets.specs.Range.{RangeParts}
+use Rattle.ios_reader.specs.declared.item.PrefixListEntry.{PrefixListEntry}
 use Rattle.policy_program.specs.Plan.{ranges_at, ranges_named}
 use Rattle.policy_program.specs.Planned.{Lists}
 
@@ -41,12 +41,12 @@ ranges_at-here m n name v up q e =
     ap (λ (o : Option (Vec RangeParts Global)). option_map_or (λ g. g.items) o []) now
 
 -- the ranges of one entry, where it is of the list and where it is not
-ranges_named-one : (b : Bool) (q : List ℕ) (e : ListEntry) → bytes_eq q e.list ≡ b → ranges_named q (e ∷ []) ≡ cond b (e.range ∷ []) []
+ranges_named-one : (b : Bool) (q : List ℕ) (e : PrefixListEntry) → bytes_eq q e.list ≡ b → ranges_named q (e ∷ []) ≡ cond b (e.entry.range ∷ []) []
 ranges_named-one true q e h = rw h refl
 ranges_named-one false q e h = rw h refl
 
 -- a range put behind those of its list
-pub added : (m n o : Lists) (name : List ℕ) (e : ListEntry) (v : Vec RangeParts Global) → name ≡ e.list → ((q : List ℕ) → bytes_eq name q ≡ false → ranges_at n q ≡ ranges_at m q) → v.items ≡ ranges_at m name ++ e.range ∷ []
+pub added : (m n o : Lists) (name : List ℕ) (e : PrefixListEntry) (v : Vec RangeParts Global) → name ≡ e.list → ((q : List ℕ) → bytes_eq name q ≡ false → ranges_at n q ≡ ranges_at m q) → v.items ≡ ranges_at m name ++ e.entry.range ∷ []
     → Updated name n o (Some v) → (q : List ℕ) → ranges_at o q ≡ ranges_at m q ++ ranges_named q (e ∷ [])
 added m n o name e v named others items up q = go (bytes_eq name q) refl
   where
@@ -56,6 +56,6 @@ added m n o name e v named others items up q = go (bytes_eq name q) refl
     go : (b : Bool) → bytes_eq name q ≡ b → ranges_at o q ≡ ranges_at m q ++ ranges_named q (e ∷ [])
     go true h =
         let same : name ≡ q = (bytes_eq-Decides name q).0 h in
-        rw (ranges_named-one true q e (listed true h)) (ranges_at-here n o name v up q h ∙ items ∙ ap (λ (x : List ℕ). ranges_at m x ++ e.range ∷ []) same)
+        rw (ranges_named-one true q e (listed true h)) (ranges_at-here n o name v up q h ∙ items ∙ ap (λ (x : List ℕ). ranges_at m x ++ e.entry.range ∷ []) same)
     go false h =
         rw (ranges_named-one false q e (listed false h), append-nil) (ranges_at-others n o name (Some v) up q h ∙ others q h)

@@ -1,48 +1,56 @@
--- What a text reads as is plain: its ranges can be spelled, a match line names one list, and a local
+-- What a text reads as is plain: its ranges can be spelled, a match line names IPv4 lists, and a local
 -- preference fits.
-use Rattle.std.proofs.Common.{◌≡◌, refl, sym, ap, subst, ℕ, ◌<◌, ◌^◌, Bool, true, false, List, [], ◌∷◌, length, Option, Some, None, arith}
+use Rattle.std.proofs.Common.{◌≡◌, refl, ℕ, ◌+◌, ◌-◌, ◌^◌, Bool, true, false, List, [], ◌∷◌, ◌++◌, Option, Some, None, arith}
+use Rattle.std.specs.Prelude.{IfSome, nat_le}
 use Rattle.std.specs.List.{AllByRecursion}
-use Rattle.route_types.specs.Address.{PrefixParts}
-use Rattle.route_types.specs.Words.{IsPrefix}
-use Rattle.route_types.specs.declared.address.Address.{Address}
-use Rattle.route_types.specs.declared.statement.Statement.{Statement}
-use Rattle.route_types.proofs.Printed.{IsPlain, prefix_of_plain}
-use Rattle.ios_reader.specs.Cut.{texts, ios_cut}
-use Rattle.ios_reader.specs.Spelling.{Spell}
-use Rattle.route_types.specs.Names.{or_else}
-use Rattle.ios_reader.specs.Tree.{known_form, name_under, form_of, sort_of, belongs, opens, items_of, ios_tree}
+use Rattle.policy_text.specs.declared.statement.Statement.{Statement}
+use Rattle.policy_text.specs.IosCut.{ios_cut}
+use Rattle.policy_text.specs.Names.{or_else}
+use Rattle.policy_text.specs.Phrases.{texts}
+use Rattle.policy_text.proofs.Phrases.{prefix_spelled}
+use Rattle.route_types.proofs.Printed.{prefix_in_plain}
+use Rattle.ios_reader.specs.Spelling.{SpellLine, Spell}
+use Rattle.ios_reader.specs.Tree.{known_form, name_under, form_of, sort_of, belongs, opens, items_of, family_of, greatest_number, entry_with_number, numbered, numbered_item, numbered_from, ios_tree}
 use Rattle.ios_reader.specs.declared.item.ItemSort.{ItemSort}
+use Rattle.ios_reader.specs.declared.item.ItemSort.TheVariants.{PrefixList}
 use Rattle.ios_reader.specs.declared.item.IosForm.{IosForm}
-use Rattle.ios_reader.specs.declared.item.IosForm.TheVariants.{PrefixEntry, MapHeader, MatchPrefix, SetLocalPreference, Other}
+use Rattle.ios_reader.specs.declared.item.IosForm.TheVariants.{PrefixEntry, PrefixDescription, CommunityEntry, MapHeader, Line, Other}
+use Rattle.ios_reader.specs.declared.item.MapLine.{MapLine}
+use Rattle.ios_reader.specs.declared.item.MapLine.TheVariants.{MatchPrefix, SetLocalPreference}
+use Rattle.ios_reader.specs.declared.item.PrefixListEntry.{PrefixListEntry}
 use Rattle.ios_reader.specs.declared.item.IosItem.{IosItem}
 use Rattle.ios_reader.proofs.Spelled.{is_spelled}
-use Rattle.policy_program.specs.Plan.{IsPlainForm, HasPlainForm}
+use Rattle.rpl_reader.specs.Written.{IsPlainRange}
+use Rattle.policy_program.specs.Plan.{IsPlainLine, IsPlainForm, HasPlainForm}
 
--- a prefix that a word spells is an IPv4 one, and its host bits are 0
-prefix_plain : (word : List ℕ) (p : PrefixParts) → IsPrefix word p → IsPlain p
-prefix_plain word p h =
-    let a = h.spells_address in
-    let family = ap (λ (x : Address). x.family) a.value in
-    let fits : h.address.bits < 2 ^ 32 = omega (arith, a.first, a.second, a.third, a.fourth, ap (λ (x : Address). x.bits) a.value) in
-    subst IsPlain (sym h.value) (prefix_of_plain h.address h.length family fits h.within)
+line_plain : (words : List (List ℕ)) (line : MapLine) → SpellLine words line → IsPlainLine line
+line_plain words (MatchPrefix m) h = h.2
+line_plain words (SetLocalPreference n) h = omega (arith, h.1)
+line_plain words _ h = tt
 
 -- what words spell is plain
-form_spelled : (words : List (List ℕ)) (form : IosForm) → Spell words form → IsPlainForm form
-form_spelled words (PrefixEntry e) h =
-    let plain = prefix_plain h.prefix_word e.range.prefix h.prefix in
+form_plain : (words : List (List ℕ)) (form : IosForm) → Spell words form → IsPlainForm form
+form_plain words (PrefixEntry e) h =
+    let prefix = e.entry.range.prefix in
+    let plain = prefix_in_plain h.prefix_word prefix (prefix_spelled h.prefix_word prefix h.prefix) in
     record { family = plain.family; prefix = plain.masked; least = h.lengths.0; rises = h.lengths.1; most = h.lengths.2 }
-form_spelled words (MapHeader m) h = tt
-form_spelled words (MatchPrefix names) h = ap (λ (x : List (List ℕ)). length x) h.one
-form_spelled words (SetLocalPreference n) h = omega (arith, h.number)
-form_spelled words (Other o) h = absurd h
+form_plain words (PrefixDescription d) h = tt
+form_plain words (CommunityEntry e) h = tt
+form_plain words (MapHeader m) h = tt
+form_plain words (Line l) h = line_plain words l h
+form_plain words (Other o) h = absurd h
 
-known_plain : (sort : ItemSort) (words : List (List ℕ)) (o : Option IosForm) → known_form sort words ≡ o → IsPlainForm (or_else o (Other (record { sort = sort; name = name_under sort words })))
-known_plain sort words (Some form) e = form_spelled words form (is_spelled words form sort e)
+known_plain : (sort : ItemSort) (words : List (List ℕ)) (o : Option IosForm) → known_form sort words ≡ o → IfSome o IsPlainForm
+known_plain sort words (Some form) e = form_plain words form (is_spelled words form sort e)
 known_plain sort words None e = tt
+
+other_plain : (sort : ItemSort) (words : List (List ℕ)) (o : Option IosForm) → IfSome o IsPlainForm → IsPlainForm (or_else o (Other (record { sort = sort; name = name_under sort words })))
+other_plain sort words (Some form) plain = plain
+other_plain sort words None plain = tt
 
 form_of_plain : (sort : ItemSort) (words : List (List ℕ)) → IsPlainForm (form_of sort words)
 unfolding form_of
-form_of_plain sort words = known_plain sort words (known_form sort words) refl
+form_of_plain sort words = other_plain sort words (known_form sort words) (known_plain sort words (known_form sort words) refl)
 
 -- an item that a statement becomes, before the items behind it
 kept_plain : (b : Bool) (s : Statement) (sort : ItemSort) (kept dropped : List IosItem) → AllByRecursion HasPlainForm kept → AllByRecursion HasPlainForm dropped
@@ -66,7 +74,32 @@ unfolding items_of
 items_plain [] entry_open = tt
 items_plain (s ∷ ss) entry_open = sorted_plain entry_open s (sort_of s.depth (texts s.words)) ss (items_plain ss)
 
+-- ---- numbers
+
+with_number_plain : (e : PrefixListEntry) (n : ℕ) (b : Bool) → IsPlainRange e.entry.range
+    → IsPlainForm (elim b [ true ↦ PrefixEntry (record e { number = n }) | false ↦ Other (record { sort = PrefixList (family_of e); name = Some e.list }) ])
+with_number_plain e n true plain = plain
+with_number_plain e n false plain = tt
+
+entry_plain : (before : List IosItem) (e : PrefixListEntry) (b : Bool) → IsPlainRange e.entry.range
+    → IsPlainForm (elim b [ true ↦ PrefixEntry e | false ↦ entry_with_number e (greatest_number (family_of e) e.list before + 5) ])
+entry_plain before e true plain = plain
+entry_plain before e false plain = with_number_plain e (greatest_number (family_of e) e.list before + 5) (nat_le (greatest_number (family_of e) e.list before + 5) (2 ^ 64 - 1)) plain
+
+numbered_plain : (before : List IosItem) (form : IosForm) → IsPlainForm form → IsPlainForm (numbered before form)
+numbered_plain before (PrefixEntry e) plain = entry_plain before e e.has_seq plain
+numbered_plain before (PrefixDescription d) plain = tt
+numbered_plain before (CommunityEntry e) plain = tt
+numbered_plain before (MapHeader h) plain = tt
+numbered_plain before (Line l) plain = plain
+numbered_plain before (Other o) plain = tt
+
+items_numbered_plain : (is before : List IosItem) → AllByRecursion HasPlainForm is → AllByRecursion HasPlainForm (numbered_from before is)
+unfolding numbered_from
+items_numbered_plain [] before plain = tt
+items_numbered_plain (i ∷ is) before plain = (numbered_plain before i.form plain.0, items_numbered_plain is (before ++ numbered_item before i ∷ []) plain.1)
+
 -- the tree of a text is plain
 pub tree_is_plain : (text : List ℕ) → AllByRecursion HasPlainForm (ios_tree text)
 unfolding ios_tree
-tree_is_plain text = items_plain (ios_cut text) false
+tree_is_plain text = items_numbered_plain (items_of false (ios_cut text)) [] (items_plain (ios_cut text) false)

@@ -3,7 +3,7 @@ use Rattle.std.proofs.Common.{◌≡◌, ◌≤◌, ◌<◌, ◌-◌, ℕ, zero,
 use Rattle.std.specs.Prelude.{slice_get, option_map}
 use Rattle.std.specs.Borrow.{Bor}
 use Rattle.std.proofs.lemmas.List.{append-nil, take_all, map_push}
-use Rattle.route_types.specs.Range.{RangeParts}
+use Rattle.prefix_sets.specs.Range.{RangeParts}
 use Rattle.rpl_reader.specs.Layout.{Step}
 use Rattle.policy_program.specs.Plan.{Plain, ranges_at, entry_view, entry_views}
 use Rattle.policy_program.specs.Steps.{step_of, steps_of}

@@ -5,8 +5,8 @@ use Rattle.std.proofs.lemmas.Bool.{eqb-true}
 use denote.Enum.Bare.{same_true}
 use Rattle.route_types.specs.declared.address.Family.{Family}
 use Rattle.route_types.specs.contracts.address.Family.{the_type}
-use Rattle.route_types.specs.Range.{RangeParts}
-use Rattle.route_types.specs.contracts.range.PrefixRangePartialEq.TheImpl.{eq-value}
+use Rattle.prefix_sets.specs.Range.{RangeParts}
+use Rattle.prefix_sets.specs.contracts.range.PrefixRangePartialEq.TheImpl.{eq-value}
 
 both_true : (a b : Bool) → (a && b) ≡ true → (a ≡ true) × (b ≡ true)
 both_true true b e = (refl, e)

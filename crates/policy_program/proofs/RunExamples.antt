@@ -1,36 +1,14 @@
--- Worked examples of words and lines that the checker computes.
-use Rattle.std.proofs.Common.{◌≡◌, refl, ℕ, List, [], ◌∷◌, ◌++◌, Some, None}
+-- Worked examples of lines, of the text of an outcome and of right statuses that the checker computes.
+use Rattle.std.proofs.Common.{◌≡◌, refl, ℕ, List, [], ◌∷◌, ◌++◌}
 use Rattle.std.specs.Prelude.{codes}
 use Rattle.std.specs.Fmt.{digits}
-use Rattle.route_types.specs.declared.fault.Cause.TheVariants.{UnknownForm}
-use Rattle.policy_program.specs.Command.{Request, words_of}
-use Rattle.policy_program.specs.Spelled.{source_part, target_part, request_in}
-use Rattle.policy_program.specs.Lines.{column_behind, column_of, outside_line, no_policy_line}
-
-abbrev request : Request
-request = record { policy = codes "IN-X"; name = codes "in_x"; file = codes "e.cfg" }
-
--- the ten words make their request
-accepted : request_in (codes "translate" ∷ codes "--from" ∷ codes "ios" ∷ codes "--policy" ∷ codes "IN-X" ∷ codes "--to" ∷ codes "rpl" ∷ codes "--as" ∷ codes "in_x" ∷ codes "e.cfg" ∷ []) ≡ Some request
-unfolding request_in source_part target_part
-accepted = refl
-
--- one word more, one fewer, a name that starts with a digit and a policy with a quote make none
-one_more : request_in (words_of request ++ codes "again" ∷ []) ≡ None
-unfolding request_in source_part target_part
-one_more = refl
-
-one_fewer : request_in (codes "translate" ∷ codes "--from" ∷ codes "ios" ∷ codes "--policy" ∷ codes "IN-X" ∷ codes "--to" ∷ codes "rpl" ∷ codes "--as" ∷ codes "in_x" ∷ []) ≡ None
-unfolding request_in source_part target_part
-one_fewer = refl
-
-starts_with_digit : request_in (words_of (record request { name = codes "7x" })) ≡ None
-unfolding request_in source_part target_part
-starts_with_digit = refl
-
-has_quote : request_in (words_of (record request { policy = codes "a'b" })) ≡ None
-unfolding request_in source_part target_part
-has_quote = refl
+use Rattle.route_types.specs.declared.route.Outcome.TheVariants.{Reject}
+use Rattle.policy_text.specs.declared.fault.Cause.TheVariants.{UnknownForm}
+use Rattle.policy_program.specs.Command.{Request, Judge}
+use Rattle.policy_program.specs.Lines.{column_behind, column_of, outside_line, no_policy_line, not_route_line}
+use Rattle.policy_program.specs.Judgement.{outcome_text}
+use Rattle.policy_program.specs.Exact.{right_status}
+use Rattle.policy_program.specs.declared.status.Status.TheVariants.{FetchFailed}
 
 -- lines and columns count from 1, and the place of an LF lies on the line that it ends
 abbrev text : List ℕ
@@ -50,3 +28,22 @@ second_line = refl
 
 not_defined : no_policy_line (codes "e.cfg") (codes "M") ≡ codes "e.cfg: no policy M" ++ (10 ∷ [])
 not_defined = refl
+
+no_eighth_line : not_route_line (codes "r.txt") 8 ≡ codes "r.txt:8: not a route" ++ (10 ∷ [])
+unfolding digits
+no_eighth_line = refl
+
+rejected : outcome_text Reject ≡ codes "reject" ++ (10 ∷ [])
+rejected = refl
+
+-- a judge fetches its policy's file first, and then that of the route
+abbrev request : Request
+request = Judge (record { policy = codes "M"; file = codes "e.cfg"; route_file = codes "r.txt" })
+
+no_policy_file : right_status ((codes "r.txt", []) ∷ []) request ≡ FetchFailed
+unfolding right_status
+no_policy_file = refl
+
+no_route_file : right_status ((codes "e.cfg", []) ∷ []) request ≡ FetchFailed
+unfolding right_status
+no_route_file = refl

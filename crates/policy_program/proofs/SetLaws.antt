@@ -8,8 +8,8 @@ use Rattle.std.specs.BTreeMap.{BTreeMap, UpdatesBy}
 use Rattle.std.proofs.lemmas.Slice.Eq.{bytes_eq-Decides}
 use Rattle.std.proofs.lemmas.Option.{slice_get-map}
 use Rattle.std.proofs.lemmas.Map.Text.{btree_map_updates_str}
-use Rattle.route_types.specs.Range.{RangeParts}
-use Rattle.route_types.specs.contracts.range.PrefixRangePartialEq.TheImpl.{eq-value}
+use Rattle.prefix_sets.specs.Range.{RangeParts}
+use Rattle.prefix_sets.specs.contracts.range.PrefixRangePartialEq.TheImpl.{eq-value}
 use Rattle.policy_program.specs.Plan.{ranges_at}
 use Rattle.policy_program.specs.Steps.{contents}
 use Rattle.policy_program.specs.Sets.{GrowsBy, place_at, ArePlaces}

@@ -1,60 +1,81 @@
 -- The text of a policy's ordered entries over its lists writes the policy.
-use Rattle.std.proofs.Common.{◌≡◌, ◌<◌, ◌^◌, ℕ, length, get_or, List, [], ◌∷◌, sym, ap, subst, ◌∙◌, arith}
+use Rattle.std.proofs.Common.{◌≡◌, ◌<◌, ◌^◌, ℕ, List, [], ◌∷◌, Option, Some, None, sym, ap, subst, ◌∙◌}
+use Rattle.std.specs.Prelude.{IfSome}
 use Rattle.std.specs.List.{list_any, AllByRecursion}
-use Rattle.std.specs.List.Sorted.{IsPermutation, IsNonDecreasingBy}
-use Rattle.std.proofs.lemmas.List.Sorted.{IsNonDecreasingBy-short, IsNonDecreasingBy-from_default, All-permutation}
-use Rattle.std.proofs.lemmas.List.Elements.{All-from_recursion, recursion_from_All}
-use Rattle.std.proofs.lemmas.List.{get_or-map, length-map}
-use Rattle.route_types.specs.Range.{in_range}
-use Rattle.ios_reader.specs.Profile.{InProfile}
-use Rattle.ios_reader.specs.Meaning.{Entry, entries_of}
+use Rattle.std.specs.List.Sorted.{IsPermutation}
+use Rattle.route_types.specs.Route.{RouteParts}
+use Rattle.route_types.specs.declared.address.Family.TheVariants.{V4}
+use Rattle.prefix_sets.specs.Range.{in_range}
+use Rattle.ios_reader.specs.Entries.{Entry, entries_of}
+use Rattle.ios_reader.specs.Profile.{first_fault_within}
+use Rattle.ios_reader.specs.declared.item.Forms.TheVariants.{First}
 use Rattle.ios_reader.specs.declared.item.IosItem.{IosItem}
-use Rattle.ios_reader.specs.declared.item.PrefixEntry.{PrefixEntry as ListEntry}
+use Rattle.ios_reader.specs.declared.item.PrefixListEntry.{PrefixListEntry}
+use Rattle.ios_meaning.specs.Order.{in_order}
 use Rattle.rpl_reader.specs.Written.{IsPlainRange}
-use Rattle.policy_program.specs.declared.plan.PlainEntry.{PlainEntry}
-use Rattle.policy_program.specs.Plan.{Plain, IsPlainForm, HasPlainForm, plain_entries, entry_view, entry_views, ranges_at, ranges_named, list_entries}
+use Rattle.policy_program.specs.Plan.{Plain, IsPlainLine, HasPlainForm, plain_entries, first_outcome, ranges_at, ranges_named, list_entries}
 use Rattle.policy_program.specs.Planned.{Lists, HavePreferences, IsTextOf}
 use Rattle.policy_program.specs.Written.{Writes}
-use Rattle.policy_program.proofs.Ranges.{ranges_any, ranges_plain}
+use Rattle.policy_program.proofs.InOrder.{all_in_order}
+use Rattle.policy_program.proofs.Ranges.{ranges_hold, ranges_plain}
 use Rattle.policy_program.proofs.PlainEntries.{preferences_fit, entries_plain}
+use Rattle.policy_program.proofs.TakenLists.{IsReached, HasReachedGuard, entries_permit, guards_reached}
 use Rattle.policy_program.proofs.IosMeaning.{meaning_is_ordered}
-use Rattle.policy_program.proofs.WriteLaws.{same_outcome}
+use Rattle.policy_program.proofs.WriteLaws.{HoldsAlike, GuardAlike, same_outcome}
 
--- the entries of the code are in order as plain ones too
-pub ordered_views : (xs : List PlainEntry) → IsNonDecreasingBy (λ e. e.number) xs → IsNonDecreasingBy (λ e. e.number) (entry_views xs)
-ordered_views [] h = IsNonDecreasingBy-short (λ e. e.number) [] (omega arith)
-ordered_views (x ∷ xs) h = IsNonDecreasingBy-from_default (λ e. e.number) (entry_views (x ∷ xs)) (entry_view x)
-    (λ i j le lt.
-    let within : j < length (x ∷ xs) = rw (length-map (x ∷ xs) entry_view) at lt in
-    let here : get_or (entry_views (x ∷ xs)) i (entry_view x) ≡ entry_view (get_or (x ∷ xs) i x) = get_or-map entry_view (x ∷ xs) i x (entry_view x) (omega arith) in
-    let there : get_or (entry_views (x ∷ xs)) j (entry_view x) ≡ entry_view (get_or (x ∷ xs) j x) = get_or-map entry_view (x ∷ xs) j x (entry_view x) within in
-    rw (here, there) (h i j x le within))
+abbrev pub in_order_of : List ℕ → List IosItem → List Plain
+in_order_of policy items = in_order (λ e. e.number) (plain_entries (entries_of policy items))
 
-plain_preferences : (es : List Entry) → AllByRecursion (λ e. AllByRecursion IsPlainForm e.lines) es → HavePreferences (plain_entries es)
+plain_preferences : (es : List Entry) → AllByRecursion (λ e. AllByRecursion IsPlainLine e.lines) es → HavePreferences (plain_entries es)
 plain_preferences [] fit = tt
 plain_preferences (e ∷ es) fit = (preferences_fit e.lines fit.0, plain_preferences es fit.1)
 
 -- the local preferences of the ordered entries fit
-pub ordered_preferences : (policy : List ℕ) (items : List IosItem) (es : List Plain) → AllByRecursion HasPlainForm items → IsPermutation (plain_entries (entries_of policy items)) es → HavePreferences es
+pub ordered_preferences : (policy : List ℕ) (items : List IosItem) (es : List Plain) → AllByRecursion HasPlainForm items → es ≡ in_order_of policy items → HavePreferences es
 ordered_preferences policy items es plain same =
     let fit = plain_preferences (entries_of policy items) (entries_plain policy items plain) in
-    recursion_from_All (λ e. AllByRecursion (λ n. n < 2 ^ 32) e.preferences) es (All-permutation (λ e. AllByRecursion (λ n. n < 2 ^ 32) e.preferences) _ es same (All-from_recursion _ _ fit))
+    subst HavePreferences (sym same) (all_in_order (λ e. AllByRecursion (λ n. n < 2 ^ 32) e.preferences) (λ e. e.number) (plain_entries (entries_of policy items)) fit)
 
 -- the ranges of each list can be spelled
-pub plain_lists : (items : List IosItem) (lists : Lists) (listed : List ListEntry) → AllByRecursion HasPlainForm items → IsPermutation (list_entries items) listed → ((q : List ℕ) → ranges_at lists q ≡ ranges_named q listed)
+pub plain_lists : (items : List IosItem) (lists : Lists) (listed : List PrefixListEntry) → AllByRecursion HasPlainForm items → IsPermutation (list_entries items) listed → ((q : List ℕ) → ranges_at lists q ≡ ranges_named q listed)
     → (q : List ℕ) → AllByRecursion IsPlainRange (ranges_at lists q)
 plain_lists items lists listed plain same at q = subst (AllByRecursion IsPlainRange) (sym (at q)) (ranges_plain q items listed same plain)
 
+-- the lists as they were gathered from the items
+pub record AreListsOf (items : List IosItem) (lists : Lists) (listed : List PrefixListEntry) : Type 0 where
+  pub plain : AllByRecursion HasPlainForm items
+  pub gathered : IsPermutation (list_entries items) listed
+  pub at : (q : List ℕ) → ranges_at lists q ≡ ranges_named q listed
+
+-- a list that is reached holds a prefix as it does in the tree
+holds_alike : (policy : List ℕ) (items : List IosItem) (lists : Lists) (listed : List PrefixListEntry) (r : RouteParts) → first_fault_within First policy items ≡ None → AreListsOf items lists listed
+    → (q : List ℕ) → IsReached policy items V4 q → HoldsAlike lists items r q
+holds_alike policy items lists listed r taken of q reached =
+    ap (list_any (λ range. in_range range r.prefix)) (of.at q) ∙ ranges_hold r.prefix q items listed of.plain of.gathered (entries_permit policy items V4 q taken reached)
+
+if_reached : (P Q : List ℕ → Type 0) (guard : Option (List ℕ)) → ((q : List ℕ) → P q → Q q) → IfSome guard P → IfSome guard Q
+if_reached P Q None more h = tt
+if_reached P Q (Some q) more h = more q h
+
+guards_alike : (policy : List ℕ) (items : List IosItem) (lists : Lists) (r : RouteParts) (es : List Plain) → ((q : List ℕ) → IsReached policy items V4 q → HoldsAlike lists items r q)
+    → AllByRecursion (HasReachedGuard policy items) es → AllByRecursion (GuardAlike lists items r) es
+guards_alike policy items lists r [] alike reached = tt
+guards_alike policy items lists r (e ∷ es) alike reached =
+    (if_reached (IsReached policy items V4) (HoldsAlike lists items r) e.guard alike reached.0, guards_alike policy items lists r es alike reached.1)
+
 -- the text of the ordered entries writes the policy
-pub writes : (items : List IosItem) (policy name text : List ℕ) (lists : Lists) (listed : List ListEntry) (es : List Plain)
-    → InProfile policy items → AllByRecursion HasPlainForm items → IsPermutation (list_entries items) listed → ((q : List ℕ) → ranges_at lists q ≡ ranges_named q listed)
-    → IsPermutation (plain_entries (entries_of policy items)) es → IsNonDecreasingBy (λ e. e.number) es → IsTextOf lists es name text → Writes items policy text name
-writes items policy name text lists listed es profile plain lists_same at same ordered made = record {
-  sets = made.sets;
-  steps = made.steps;
-  writable = made.writable;
-  layout = made.layout;
-  same = λ r. same_outcome lists made.sets items r made.steps es made.planned
-      (λ q. ap (list_any (λ range. in_range range r.prefix)) (at q) ∙ ranges_any (λ range. in_range range r.prefix) q items listed lists_same)
-      ∙ meaning_is_ordered policy items r es profile plain same ordered;
-}
+pub writes : (items : List IosItem) (policy name text : List ℕ) (lists : Lists) (listed : List PrefixListEntry) (es : List Plain) → first_fault_within First policy items ≡ None → AreListsOf items lists listed
+    → es ≡ in_order_of policy items → IsTextOf lists es name text → Writes items policy text name
+writes items policy name text lists listed es taken of ordered made =
+    let entries = plain_entries (entries_of policy items) in
+    let guards = all_in_order (HasReachedGuard policy items) (λ e. e.number) entries (guards_reached policy items (entries_plain policy items of.plain)) in
+    let reached = subst (AllByRecursion (HasReachedGuard policy items)) (sym ordered) guards in
+    record {
+      sets = made.sets;
+      steps = made.steps;
+      writable = made.writable;
+      layout = made.layout;
+      same = λ r. same_outcome lists made.sets items r made.steps es made.planned (guards_alike policy items lists r es (holds_alike policy items lists listed r taken of) reached)
+          ∙ ap (first_outcome items r) ordered
+          ∙ meaning_is_ordered policy items r taken of.plain;
+    }

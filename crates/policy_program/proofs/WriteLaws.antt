@@ -6,14 +6,16 @@ use Rattle.std.specs.Borrow.{Bor}
 use Rattle.std.proofs.lemmas.List.{length-map}
 use Rattle.policy_program.specs.Steps.{contents}
 use Rattle.std.proofs.lemmas.Option.{slice_get_within}
-use Rattle.route_types.specs.Range.{RangeParts, in_range}
+use Rattle.prefix_sets.specs.Range.{RangeParts, in_range}
 use Rattle.route_types.specs.Route.{RouteParts}
 use Rattle.route_types.specs.declared.route.Outcome.{Outcome}
 use Rattle.route_types.specs.declared.route.Outcome.TheVariants.{Reject, Accept}
 use Rattle.route_types.specs.Change.{changed_by}
 use Rattle.route_types.specs.declared.change.Change.TheVariants.{LocalPreference}
 use Rattle.ios_reader.specs.declared.item.IosItem.{IosItem}
-use Rattle.ios_reader.specs.Meaning.{list_ranges}
+use Rattle.route_types.specs.declared.address.Family.TheVariants.{V4}
+use Rattle.prefix_sets.specs.FirstMatch.{first_match}
+use Rattle.ios_meaning.specs.Lists.{prefix_list}
 use Rattle.rpl_reader.specs.Layout.{Step}
 use Rattle.rpl_reader.specs.Written.{IsPlainRange, IsPlainStep, guard_holds, step_outcome, steps_outcome}
 use Rattle.policy_program.specs.Plan.{Plain, ranges_at, plain_holds, plain_outcome, first_outcome}
@@ -57,9 +59,13 @@ plain_steps lists sets (s ∷ ss) (e ∷ es) planned fit = go (λ p. plain_steps
           tail more.1,
         )
 
--- lists hold as they do in the tree
-abbrev pub HoldAlike : Lists → List IosItem → RouteParts → Type 0
-HoldAlike lists all r = (q : List ℕ) → list_any (λ range. in_range range r.prefix) (ranges_at lists q) ≡ list_any (λ range. in_range range r.prefix) (list_ranges q all)
+-- the list holds the route's prefix as it does in the tree
+abbrev pub HoldsAlike : Lists → List IosItem → RouteParts → List ℕ → Type 0
+HoldsAlike lists all r q = list_any (λ range. in_range range r.prefix) (ranges_at lists q) ≡ first_match (prefix_list V4 q all) r.prefix
+
+-- the list that guards an entry does, if one does
+abbrev pub GuardAlike : Lists → List IosItem → RouteParts → Plain → Type 0
+GuardAlike lists all r e = IfSome e.guard (HoldsAlike lists all r)
 
 abbrev made : RouteParts → Bool → List ℕ → Outcome
 made r b ns = elim b [ true ↦ Accept (changed_by (map LocalPreference ns) r) | false ↦ Reject ]
@@ -75,13 +81,13 @@ abbrev pick : Bool → Outcome → Outcome → Outcome
 pick b x y = elim b [ true ↦ x | false ↦ y ]
 
 -- the steps give the outcome of the entries
-pub same_outcome : (lists : Lists) (sets : List (List RangeParts)) (all : List IosItem) (r : RouteParts) (steps : List Step) (es : List Plain) → Plans lists sets steps es → HoldAlike lists all r
+pub same_outcome : (lists : Lists) (sets : List (List RangeParts)) (all : List IosItem) (r : RouteParts) (steps : List Step) (es : List Plain) → Plans lists sets steps es → AllByRecursion (GuardAlike lists all r) es
     → steps_outcome sets r steps ≡ first_outcome all r es
 unfolding steps_outcome
 same_outcome lists sets all r [] [] planned alike = refl
 same_outcome lists sets all r (s ∷ ss) [] planned alike = absurd planned
 same_outcome lists sets all r [] (e ∷ es) planned alike = absurd planned
-same_outcome lists sets all r (s ∷ ss) (e ∷ es) planned alike = go (λ p. same_outcome lists sets all r ss es p alike) e.guard refl
+same_outcome lists sets all r (s ∷ ss) (e ∷ es) planned alike = go (λ p. same_outcome lists sets all r ss es p alike.1) e.guard refl
   where
     go : (Plans lists sets ss es → steps_outcome sets r ss ≡ first_outcome all r es) → (g : Option (List ℕ)) → e.guard ≡ g
         → pick (guard_holds sets r s.guard) (step_outcome r s) (steps_outcome sets r ss) ≡ pick (plain_holds all r e.guard) (plain_outcome r e) (first_outcome all r es)
@@ -94,8 +100,9 @@ same_outcome lists sets all r (s ∷ ss) (e ∷ es) planned alike = go (λ p. sa
         let more = rw h at planned.1 in
         let ours : guard_holds sets r s.guard ≡ list_any (λ range. in_range range r.prefix) (ranges_at lists name) =
         ap (guard_holds sets r) more.0.guards ∙ ap (λ (o : Option (List RangeParts)). list_any (λ range. in_range range r.prefix) (unwrap_or o [])) more.0.set in
-        let theirs : plain_holds all r e.guard ≡ list_any (λ range. in_range range r.prefix) (list_ranges name all) = ap (plain_holds all r) h in
-        ap (λ (b : Bool). pick b (step_outcome r s) (steps_outcome sets r ss)) (ours ∙ alike name ∙ sym theirs)
+        let same : HoldsAlike lists all r name = subst (λ (g : Option (List ℕ)). IfSome g (HoldsAlike lists all r)) h alike.0 in
+        let theirs : plain_holds all r e.guard ≡ first_match (prefix_list V4 name all) r.prefix = ap (plain_holds all r) h in
+        ap (λ (b : Bool). pick b (step_outcome r s) (steps_outcome sets r ss)) (ours ∙ same ∙ sym theirs)
         ∙ ap (λ (o : Outcome). pick (plain_holds all r e.guard) o (steps_outcome sets r ss)) (same_step r s e planned.0)
         ∙ ap (λ (o : Outcome). pick (plain_holds all r e.guard) (plain_outcome r e) o) (tail more.1)
 

@@ -1,40 +1,44 @@
--- Completeness: a policy in profile is translated, want of memory and faults of the outside aside.
-use Rattle.std.specs.Prelude.{ℕ, ◌≤◌, List, length}
-use Rattle.ios_reader.specs.Tree.{ios_tree}
-use Rattle.ios_reader.specs.Profile.{InProfile}
+-- Completeness: a request that has a result gets it, want of memory and faults of the outside aside.
+use Rattle.std.specs.Prelude.{◌≡◌, ℕ, List, Some}
 use Rattle.policy_outside.specs.Shelf.{FaultRose}
+use Rattle.policy_outside.specs.Texts.{Texts}
 use Rattle.policy_program.specs.Command.{Request, Accepts}
-use Rattle.policy_program.specs.Translation.{IsTranslation}
-use Rattle.policy_program.specs.Ends.{Shelves, Sinks, Received, FaultsRose, most_bytes}
-use Rattle.policy_program.specs.Exact.{TellsText}
+use Rattle.policy_program.specs.Requests.{IsResult, HasResult}
+use Rattle.policy_program.specs.Ends.{Shelves, Sinks, Received, FaultsRose, IsGiven, IsFetched}
 use Rattle.policy_program.specs.declared.status.Status.{Status}
 use Rattle.policy_program.specs.declared.status.Status.TheVariants.{Done, Same, Differ, Usage, Broken, NoPolicy, Outside, Inexpressible, FetchFailed, TooLong, WriteFailed, Memory, RouteRefused}
 
--- `out` received exactly a right translation of this source
-pub record WroteWhole (q : Request) (source : List ℕ) (out : Sinks) : Type 0 where
-  pub target : List ℕ
-  pub right : IsTranslation source q.policy target q.name
-  pub received : Received out target
+-- `out` received exactly a right result on these texts
+pub record WroteWhole (q : Request) (source second : List ℕ) (out : Sinks) : Type 0 where
+  pub text : List ℕ
+  pub right : IsResult q source second text
+  pub received : Received out text
 
--- the translation was written, or a fetch or a put was at fault by its count, or memory was short
-abbrev pub Completes : Request → List ℕ → Shelves → Sinks → Status → Type 0
-Completes q source shelf out Done = WroteWhole q source out
-Completes q source shelf out Same = ⊥
-Completes q source shelf out Differ = ⊥
-Completes q source shelf out Usage = ⊥
-Completes q source shelf out Broken = ⊥
-Completes q source shelf out NoPolicy = ⊥
-Completes q source shelf out Outside = ⊥
-Completes q source shelf out Inexpressible = ⊥
-Completes q source shelf out FetchFailed = FaultRose shelf.before shelf.now q.file
-Completes q source shelf out TooLong = ⊥
-Completes q source shelf out WriteFailed = FaultsRose out
-Completes q source shelf out Memory = Unit {0}
-Completes q source shelf out RouteRefused = ⊥
+-- a fetch of a file of the request, at its turn, was at fault by the count
+pub record FailedFetch (q : Request) (shelf : Shelves) : Type 0 where
+  pub file : List ℕ
+  pub fetched : IsFetched shelf q file
+  pub fault : FaultRose shelf.before shelf.now file
 
--- so ends every run on a request whose told text fits and whose policy lies in the profile
+-- the result was written, or a fetch or a put was at fault by its count, or memory was short
+abbrev pub Completes : Request → List ℕ → List ℕ → Shelves → Sinks → Status → Type 0
+Completes q source second shelf out Done = WroteWhole q source second out
+Completes q source second shelf out Same = ⊥
+Completes q source second shelf out Differ = ⊥
+Completes q source second shelf out Usage = ⊥
+Completes q source second shelf out Broken = ⊥
+Completes q source second shelf out NoPolicy = ⊥
+Completes q source second shelf out Outside = ⊥
+Completes q source second shelf out Inexpressible = ⊥
+Completes q source second shelf out FetchFailed = FailedFetch q shelf
+Completes q source second shelf out TooLong = ⊥
+Completes q source second shelf out WriteFailed = FaultsRose out
+Completes q source second shelf out Memory = Unit {0}
+Completes q source second shelf out RouteRefused = ⊥
+
+-- so ends every run, on a shelf that tells its texts, on a request that has a result on them
 abbrev pub IsComplete : List (List ℕ) → Shelves → Sinks → Status → Type 0
 IsComplete words shelf out status =
-    (q : Request) (source : List ℕ) → Accepts words q → TellsText shelf.before.texts q.file source
-    → length source ≤ most_bytes → InProfile q.policy (ios_tree source)
-    → Completes q source shelf out status
+    (texts : Texts) → shelf.before.texts ≡ Some texts
+    → (q : Request) (source second : List ℕ) → Accepts words q → IsGiven shelf q source second → HasResult q source second
+    → Completes q source second shelf out status

@@ -1,18 +1,20 @@
 -- How a run ends: for each status what stands with it, what `out` received and what `err` received.
-use Rattle.std.specs.Prelude.{◌≡◌, ℕ, ◌≤◌, ◌⊎◌, List, length, IfSome}
-use Rattle.route_types.specs.declared.statement.Span.{Span}
-use Rattle.route_types.specs.declared.fault.Cause.{Cause}
+use Rattle.std.specs.Prelude.{◌≡◌, ℕ, ◌≤◌, ◌⊎◌, List, [], length, Option, Some, None, IfSome}
+use Rattle.policy_text.specs.declared.statement.Span.{Span}
+use Rattle.policy_text.specs.declared.fault.Cause.{Cause}
 use Rattle.policy_outside.specs.Counts.{Rose}
 use Rattle.policy_outside.specs.Texts.{IsTold, IsLonger}
 use Rattle.policy_outside.specs.Shelf.{ShelfView, SameFaults, FaultRose}
 use Rattle.policy_outside.specs.Sink.{SinkView, PutsWhole, PutsPrefix}
-use Rattle.policy_program.specs.Command.{Request, Accepts, IsRefused}
-use Rattle.policy_program.specs.Translation.{IsTranslation, IsNoPolicy, IsFirstFault}
-use Rattle.policy_program.specs.Lines.{usage_line, no_policy_line, outside_line, unread_line, too_long_line, unwritten_line, memory_line}
+use Rattle.policy_program.specs.Command.{Request, Judge, JudgeParts, Accepts, IsRefused}
+use Rattle.policy_program.specs.Checked.{IsNoPolicy, IsFirstFault}
+use Rattle.policy_program.specs.Judgement.{IsNotRoute}
+use Rattle.policy_program.specs.Requests.{policy_of, file_of, second_file, taken_by, IsResult}
+use Rattle.policy_program.specs.Lines.{usage_line, no_policy_line, outside_line, unread_line, too_long_line, unwritten_line, memory_line, not_route_line}
 use Rattle.policy_program.specs.declared.status.Status.{Status}
 use Rattle.policy_program.specs.declared.status.Status.TheVariants.{Done, Same, Differ, Usage, Broken, NoPolicy, Outside, Inexpressible, FetchFailed, TooLong, WriteFailed, Memory, RouteRefused}
 
--- the greatest length of a source, in bytes
+-- the greatest length of a source or a route file, in bytes
 abbrev pub most_bytes : ℕ
 most_bytes = 16777216
 
@@ -49,10 +51,30 @@ ShortagesRose s = Rose s.before.shortages s.now.shortages
 abbrev pub ReceivedLine : Sinks → List ℕ → Type 0
 ReceivedLine s line = Received s line ⊎ (ReceivedPrefix s line × (FaultsRose s ⊎ ShortagesRose s))
 
--- a text of at most the greatest length stands under the file of the request, where the shelf tells its texts
-pub record IsSource (shelf : Shelves) (q : Request) (source : List ℕ) : Type 0 where
-  pub told : IsTold shelf.before.texts q.file source
-  pub within : length source ≤ most_bytes
+-- a text of at most the greatest length stands under the file, where the shelf tells its texts
+pub record IsTextOf (shelf : Shelves) (file text : List ℕ) : Type 0 where
+  pub told : IsTold shelf.before.texts file text
+  pub within : length text ≤ most_bytes
+
+-- the text of the second file; where there is no such file, nothing
+abbrev pub IsSecondOf : Shelves → Option (List ℕ) → List ℕ → Type 0
+IsSecondOf shelf None text = text ≡ []
+IsSecondOf shelf (Some file) text = IsTextOf shelf file text
+
+-- the texts that the request is answered on: that of the policy's file and that of the second file
+pub record IsGiven (shelf : Shelves) (q : Request) (source second : List ℕ) : Type 0 where
+  pub is_source : IsTextOf shelf (file_of q) source
+  pub is_second : IsSecondOf shelf (second_file q) second
+
+-- the file is the second of the request, and the policy's file gave a text
+pub record IsSecondTurn (shelf : Shelves) (q : Request) (file : List ℕ) : Type 0 where
+  pub source : List ℕ
+  pub is_source : IsTextOf shelf (file_of q) source
+  pub second : second_file q ≡ Some file
+
+-- a run on the request comes to fetch the file: the policy's first, then the second
+abbrev pub IsFetched : Shelves → Request → List ℕ → Type 0
+IsFetched shelf q file = (file ≡ file_of q) ⊎ IsSecondTurn shelf q file
 
 -- no fetch of the run was at fault
 abbrev pub NoFault : Shelves → Type 0
@@ -65,22 +87,26 @@ pub record EndsInUsage (words : List (List ℕ)) (shelf : Shelves) (out err : Si
   pub out_empty : ReceivedNothing out
   pub line : ReceivedLine err usage_line
 
--- the count of the shelf rose, and its last fault is the file of the request
+-- the count of the shelf rose, and its last fault is a file of the request, at its turn
 pub record EndsInFetchFailed (words : List (List ℕ)) (shelf : Shelves) (out err : Sinks) : Type 0 where
   pub request : Request
   pub accepted : Accepts words request
-  pub fault : FaultRose shelf.before shelf.now request.file
+  pub file : List ℕ
+  pub fetched : IsFetched shelf request file
+  pub fault : FaultRose shelf.before shelf.now file
   pub out_empty : ReceivedNothing out
-  pub line : ReceivedLine err (unread_line request.file)
+  pub line : ReceivedLine err (unread_line file)
 
--- the text under the file is longer than the greatest length, where the shelf tells it
+-- the text under a file of the request, at its turn, is longer than the greatest length, where the shelf tells it
 pub record EndsInTooLong (words : List (List ℕ)) (shelf : Shelves) (out err : Sinks) : Type 0 where
   pub request : Request
   pub accepted : Accepts words request
   pub no_fault : NoFault shelf
-  pub longer : IfSome shelf.before.texts (λ texts. IsLonger texts request.file most_bytes)
+  pub file : List ℕ
+  pub fetched : IsFetched shelf request file
+  pub longer : IfSome shelf.before.texts (λ texts. IsLonger texts file most_bytes)
   pub out_empty : ReceivedNothing out
-  pub line : ReceivedLine err (too_long_line request.file)
+  pub line : ReceivedLine err (too_long_line file)
 
 -- no route-map stands under the policy's name
 pub record EndsInNoPolicy (words : List (List ℕ)) (shelf : Shelves) (out err : Sinks) : Type 0 where
@@ -88,10 +114,11 @@ pub record EndsInNoPolicy (words : List (List ℕ)) (shelf : Shelves) (out err :
   pub accepted : Accepts words request
   pub no_fault : NoFault shelf
   pub source : List ℕ
-  pub is_source : IsSource shelf request source
-  pub cause : IsNoPolicy source request.policy
+  pub second : List ℕ
+  pub given : IsGiven shelf request source second
+  pub cause : IsNoPolicy source (policy_of request)
   pub out_empty : ReceivedNothing out
-  pub line : ReceivedLine err (no_policy_line request.file request.policy)
+  pub line : ReceivedLine err (no_policy_line (file_of request) (policy_of request))
 
 -- the policy lies outside the profile; its first fault is named
 pub record EndsInOutside (words : List (List ℕ)) (shelf : Shelves) (out err : Sinks) : Type 0 where
@@ -99,53 +126,70 @@ pub record EndsInOutside (words : List (List ℕ)) (shelf : Shelves) (out err : 
   pub accepted : Accepts words request
   pub no_fault : NoFault shelf
   pub source : List ℕ
-  pub is_source : IsSource shelf request source
+  pub second : List ℕ
+  pub given : IsGiven shelf request source second
   pub span : Span
   pub fault : Cause
-  pub cause : IsFirstFault source request.policy span fault
+  pub cause : IsFirstFault (taken_by request) source (policy_of request) span fault
   pub out_empty : ReceivedNothing out
-  pub line : ReceivedLine err (outside_line request.file source span fault)
+  pub line : ReceivedLine err (outside_line (file_of request) source span fault)
 
--- `out` received a right translation
+-- the policy is in profile, and the route file spells no route; its first line that is not the form is named
+pub record EndsInRouteRefused (words : List (List ℕ)) (shelf : Shelves) (out err : Sinks) : Type 0 where
+  pub asked : JudgeParts
+  pub accepted : Accepts words (Judge asked)
+  pub no_fault : NoFault shelf
+  pub source : List ℕ
+  pub second : List ℕ
+  pub given : IsGiven shelf (Judge asked) source second
+  pub number : ℕ
+  pub cause : IsNotRoute source asked.policy second number
+  pub out_empty : ReceivedNothing out
+  pub line : ReceivedLine err (not_route_line asked.route_file number)
+
+-- `out` received the right result
 pub record EndsInDone (words : List (List ℕ)) (shelf : Shelves) (out err : Sinks) : Type 0 where
   pub request : Request
   pub accepted : Accepts words request
   pub no_fault : NoFault shelf
   pub source : List ℕ
-  pub is_source : IsSource shelf request source
-  pub target : List ℕ
-  pub right : IsTranslation source request.policy target request.name
-  pub written : Received out target
+  pub second : List ℕ
+  pub given : IsGiven shelf request source second
+  pub text : List ℕ
+  pub right : IsResult request source second text
+  pub written : Received out text
   pub err_empty : ReceivedNothing err
 
--- the count of faults of `out` rose; it received a prefix of a right translation
+-- the count of faults of `out` rose; it received a prefix of a right result
 pub record EndsInWriteFailed (words : List (List ℕ)) (shelf : Shelves) (out err : Sinks) : Type 0 where
   pub request : Request
   pub accepted : Accepts words request
   pub no_fault : NoFault shelf
   pub source : List ℕ
-  pub is_source : IsSource shelf request source
-  pub target : List ℕ
-  pub right : IsTranslation source request.policy target request.name
+  pub second : List ℕ
+  pub given : IsGiven shelf request source second
+  pub text : List ℕ
+  pub right : IsResult request source second text
   pub fault : FaultsRose out
-  pub written : ReceivedPrefix out target
+  pub written : ReceivedPrefix out text
   pub line : ReceivedLine err unwritten_line
 
--- `out` received a prefix of a right translation, and its count of shortages rose
-pub record ShortOf (shelf : Shelves) (q : Request) (out : Sinks) : Type 0 where
+-- `out` received a prefix of a right result, and its count of shortages rose
+pub record ShortOf (words : List (List ℕ)) (shelf : Shelves) (out : Sinks) : Type 0 where
+  pub request : Request
+  pub accepted : Accepts words request
   pub source : List ℕ
-  pub is_source : IsSource shelf q source
-  pub target : List ℕ
-  pub right : IsTranslation source q.policy target q.name
+  pub second : List ℕ
+  pub given : IsGiven shelf request source second
+  pub text : List ℕ
+  pub right : IsResult request source second text
   pub shortage : ShortagesRose out
-  pub written : ReceivedPrefix out target
+  pub written : ReceivedPrefix out text
 
 -- want of memory: `out` received nothing, or a prefix where its count of shortages rose
 pub record EndsInMemory (words : List (List ℕ)) (shelf : Shelves) (out err : Sinks) : Type 0 where
-  pub request : Request
-  pub accepted : Accepts words request
   pub no_fault : NoFault shelf
-  pub written : ReceivedNothing out ⊎ ShortOf shelf request out
+  pub written : ReceivedNothing out ⊎ ShortOf words shelf out
   pub line : ReceivedLine err memory_line
 
 -- what stands with the status of a run
@@ -162,4 +206,4 @@ EndsAs words shelf out err FetchFailed = EndsInFetchFailed words shelf out err
 EndsAs words shelf out err TooLong = EndsInTooLong words shelf out err
 EndsAs words shelf out err WriteFailed = EndsInWriteFailed words shelf out err
 EndsAs words shelf out err Memory = EndsInMemory words shelf out err
-EndsAs words shelf out err RouteRefused = ⊥
+EndsAs words shelf out err RouteRefused = EndsInRouteRefused words shelf out err

@@ -1,15 +1,17 @@
--- The headline: a text that was written is a right translation of the source.
+-- The headline: a text that was written is the right result of the command.
 use Rattle.std.specs.Prelude.{ℕ, List}
 use Rattle.policy_program.specs.Command.{Request, Accepts}
-use Rattle.policy_program.specs.Translation.{IsTranslation}
-use Rattle.policy_program.specs.Ends.{Shelves, Sinks, IsSource, Received}
+use Rattle.policy_program.specs.Requests.{IsResult}
+use Rattle.policy_program.specs.Ends.{Shelves, Sinks, IsGiven, Received}
 
--- the words make a request, its source stands under its file, and `out` received exactly a right translation of it
-pub record WritesTranslation (words : List (List ℕ)) (shelf : Shelves) (out : Sinks) : Type 0 where
+-- the words make a request, its texts stand under its files, and `out` received exactly a right result: for translate
+-- a right translation of the policy, for judge what the policy makes of the route
+pub record WritesResult (words : List (List ℕ)) (shelf : Shelves) (out : Sinks) : Type 0 where
   pub request : Request
   pub accepted : Accepts words request
   pub source : List ℕ
-  pub is_source : IsSource shelf request source
-  pub target : List ℕ
-  pub right : IsTranslation source request.policy target request.name
-  pub received : Received out target
+  pub second : List ℕ
+  pub given : IsGiven shelf request source second
+  pub text : List ℕ
+  pub right : IsResult request source second text
+  pub received : Received out text

@@ -1,5 +1,13 @@
-pub mod Translation
+pub mod ClapCommands
 pub mod Command
+pub mod Spelled
+pub mod Causes
+pub mod Checked
+pub mod Translation
+pub mod Translated
+pub mod Judgement
+pub mod Judged
+pub mod Requests
 pub mod Lines
 pub mod Status
 pub mod Ends
@@ -8,11 +16,9 @@ pub mod Steps
 pub mod Sets
 pub mod Planned
 pub mod Written
-pub mod Translated
-pub mod Spelled
 pub mod Refused
-pub mod Layers
 pub mod Unfetched
+pub mod Layers
 pub mod Headline
 pub mod Exact
 pub mod Complete

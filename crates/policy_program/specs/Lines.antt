@@ -1,9 +1,9 @@
 -- Lines and columns of a text, and the one line that a refusal puts on `err`.
 use Rattle.std.specs.Prelude.{ℕ, ◌+◌, true, false, ◌==◌, List, [], ◌∷◌, take, count_by, codes, decimal}
 use Rattle.policy_outside.specs.Sink.{joined}
-use Rattle.route_types.specs.declared.statement.Span.{Span}
-use Rattle.route_types.specs.declared.fault.Cause.{Cause}
-use Rattle.route_types.specs.declared.fault.Cause.TheVariants.{UnknownForm, DefinedTwice, SequenceTwice, Undefined, SameKindTwice, BackwardContinue, DenyContinue, UnsettledTest, ExactExpanded, NotPlain, MixedPrefixTests, SamePrefixTwice, PathTestAfterPrepend, SubroutineChanges, NextPolicyInSubroutine, Cycle, TooDeep, ArgumentCount, BadArgument}
+use Rattle.policy_text.specs.declared.statement.Span.{Span}
+use Rattle.policy_text.specs.declared.fault.Cause.{Cause}
+use Rattle.policy_text.specs.declared.fault.Cause.TheVariants.{UnknownForm, DefinedTwice, SequenceTwice, Undefined, SameKindTwice, BackwardContinue, DenyContinue, UnsettledTest, ExactExpanded, NotPlain, MixedPrefixTests, SamePrefixTwice, PathTestAfterPrepend, SubroutineChanges, NextPolicyInSubroutine, Cycle, TooDeep, ArgumentCount, BadArgument}
 
 -- the line of a place: 1 plus the LFs before it
 abbrev pub line_of : List ℕ → ℕ → ℕ
@@ -64,3 +64,7 @@ unwritten_line = codes "output cannot be written\n"
 
 abbrev pub memory_line : List ℕ
 memory_line = codes "out of memory\n"
+
+-- the file spells no route; the number is that of its first line that is not the form
+abbrev pub not_route_line : List ℕ → ℕ → List ℕ
+not_route_line file number = joined (file ∷ codes ":" ∷ decimal number ∷ codes ": not a route\n" ∷ [])

@@ -1,6 +1,5 @@
 -- How a route-map is taken for writing: its entries as plain ones, in order of their numbers.
-use Rattle.std.specs.Prelude.{◌≡◌, ℕ, ◌<◌, ◌^◌, Bool, true, false, List, [], ◌∷◌, Option, Some, None, map, option_map, length, bytes_eq, filter}
-use Rattle.std.specs.List.{list_any}
+use Rattle.std.specs.Prelude.{◌≡◌, ℕ, ◌<◌, ◌^◌, Bool, true, false, List, [], ◌∷◌, Option, Some, None, map, option_map, bytes_eq, filter}
 use Rattle.std.specs.Prelude.{Vec}
 use Rattle.std.specs.Borrow.{Bor}
 use Rattle.std.specs.Option.{option_map_or}
@@ -8,26 +7,38 @@ use Rattle.std.specs.Ordering.{nat_cmp}
 use Rattle.std.specs.Cmp.Lexicographic.{slice_cmp}
 use Rattle.std.specs.BTreeMap.{BTreeMap, get_by}
 use Rattle.std.specs.declared.alloc.Global.{Global}
-use Rattle.route_types.specs.Range.{RangeParts, in_range}
+use Rattle.prefix_sets.specs.Range.{RangeParts}
+use Rattle.route_types.specs.declared.address.Family.TheVariants.{V4}
 use Rattle.route_types.specs.Route.{RouteParts}
 use Rattle.route_types.specs.Change.{changed_by}
 use Rattle.route_types.specs.declared.change.Change.TheVariants.{LocalPreference}
 use Rattle.route_types.specs.declared.route.Outcome.{Outcome}
 use Rattle.route_types.specs.declared.route.Outcome.TheVariants.{Reject, Accept}
-use Rattle.ios_reader.specs.declared.item.PrefixEntry.{PrefixEntry as ListEntry}
+use Rattle.prefix_sets.specs.FirstMatch.{first_match}
+use Rattle.ios_reader.specs.declared.item.PrefixListEntry.{PrefixListEntry}
+use Rattle.ios_reader.specs.declared.item.MapLine.{MapLine}
+use Rattle.ios_reader.specs.declared.item.MapLine.TheVariants.{MatchPrefix, SetLocalPreference}
 use Rattle.ios_reader.specs.declared.item.IosForm.{IosForm}
-use Rattle.ios_reader.specs.declared.item.IosForm.TheVariants.{PrefixEntry, MapHeader, MatchPrefix, SetLocalPreference, Other}
+use Rattle.ios_reader.specs.declared.item.IosForm.TheVariants.{PrefixEntry, PrefixDescription, CommunityEntry, MapHeader, Line, Other}
 use Rattle.ios_reader.specs.declared.item.IosItem.{IosItem}
-use Rattle.ios_reader.specs.Meaning.{Entry, list_ranges}
+use Rattle.ios_reader.specs.Entries.{Entry}
+use Rattle.ios_meaning.specs.Lists.{prefix_list}
 use Rattle.rpl_reader.specs.Written.{IsPlainRange}
 use Rattle.policy_program.specs.declared.plan.PlainEntry.{PlainEntry}
 
--- the range of an entry can be spelled, and a match line names one list: what a text reads as is such
+-- a match line names IPv4 lists, and a local preference fits: so reads each line of a text
+abbrev pub IsPlainLine : MapLine → Type 0
+IsPlainLine (MatchPrefix m) = m.family ≡ V4
+IsPlainLine (SetLocalPreference n) = n < 2 ^ 32
+IsPlainLine _ = Unit {0}
+
+-- the range of an entry can be spelled, and a line is plain: so reads each statement of a text
 abbrev pub IsPlainForm : IosForm → Type 0
-IsPlainForm (PrefixEntry e) = IsPlainRange e.range
+IsPlainForm (PrefixEntry e) = IsPlainRange e.entry.range
+IsPlainForm (PrefixDescription d) = Unit {0}
+IsPlainForm (CommunityEntry e) = Unit {0}
 IsPlainForm (MapHeader h) = Unit {0}
-IsPlainForm (MatchPrefix names) = length names ≡ 1
-IsPlainForm (SetLocalPreference n) = n < 2 ^ 32
+IsPlainForm (Line l) = IsPlainLine l
 IsPlainForm (Other o) = Unit {0}
 
 abbrev pub HasPlainForm : IosItem → Type 0
@@ -46,28 +57,25 @@ entry_view e = record { number = e.number; permit = e.permit; guard = option_map
 abbrev pub entry_views : List PlainEntry → List Plain
 entry_views es = map entry_view es
 
--- the first name of the first match line that has one
-abbrev pub guard_from : IosForm → Option (List ℕ) → Option (List ℕ)
-guard_from (PrefixEntry e) rest = rest
-guard_from (MapHeader h) rest = rest
-guard_from (MatchPrefix []) rest = rest
-guard_from (MatchPrefix (name ∷ names)) rest = Some name
-guard_from (SetLocalPreference n) rest = rest
-guard_from (Other o) rest = rest
+-- the first name of the first line `match ip address prefix-list` that has one
+abbrev pub first_name : List (List ℕ) → Option (List ℕ) → Option (List ℕ)
+first_name [] rest = rest
+first_name (name ∷ names) rest = Some name
 
-abbrev pub guard_of : List IosForm → Option (List ℕ)
+abbrev pub guard_from : MapLine → Option (List ℕ) → Option (List ℕ)
+guard_from (MatchPrefix m) rest = first_name m.lists rest
+guard_from _ rest = rest
+
+abbrev pub guard_of : List MapLine → Option (List ℕ)
 guard_of [] = None
 guard_of (l ∷ ls) = guard_from l (guard_of ls)
 
 -- the local preferences that lines set
-abbrev pub preference_from : IosForm → List ℕ → List ℕ
-preference_from (PrefixEntry e) rest = rest
-preference_from (MapHeader h) rest = rest
-preference_from (MatchPrefix names) rest = rest
+abbrev pub preference_from : MapLine → List ℕ → List ℕ
 preference_from (SetLocalPreference n) rest = n ∷ rest
-preference_from (Other o) rest = rest
+preference_from _ rest = rest
 
-abbrev pub preferences_of : List IosForm → List ℕ
+abbrev pub preferences_of : List MapLine → List ℕ
 preferences_of [] = []
 preferences_of (l ∷ ls) = preference_from l (preferences_of ls)
 
@@ -79,25 +87,26 @@ abbrev pub plain_entries : List Entry → List Plain
 plain_entries es = map plain_entry es
 
 -- the entries of all prefix lists
-abbrev pub list_entry_from : IosForm → List ListEntry → List ListEntry
+abbrev pub list_entry_from : IosForm → List PrefixListEntry → List PrefixListEntry
 list_entry_from (PrefixEntry e) rest = e ∷ rest
+list_entry_from (PrefixDescription d) rest = rest
+list_entry_from (CommunityEntry e) rest = rest
 list_entry_from (MapHeader h) rest = rest
-list_entry_from (MatchPrefix names) rest = rest
-list_entry_from (SetLocalPreference n) rest = rest
+list_entry_from (Line l) rest = rest
 list_entry_from (Other o) rest = rest
 
-abbrev pub list_entries : List IosItem → List ListEntry
+abbrev pub list_entries : List IosItem → List PrefixListEntry
 list_entries [] = []
 list_entries (i ∷ is) = list_entry_from i.form (list_entries is)
 
 -- the ranges of the entries of one list
-abbrev pub ranges_named : List ℕ → List ListEntry → List RangeParts
-ranges_named list es = map (λ e. e.range) (filter (λ e. bytes_eq list e.list) es)
+abbrev pub ranges_named : List ℕ → List PrefixListEntry → List RangeParts
+ranges_named list es = map (λ e. e.entry.range) (filter (λ e. bytes_eq list e.list) es)
 
 -- a guard of a plain entry holds
 abbrev pub plain_holds : List IosItem → RouteParts → Option (List ℕ) → Bool
 plain_holds all r None = true
-plain_holds all r (Some list) = list_any (λ range. in_range range r.prefix) (list_ranges list all)
+plain_holds all r (Some list) = first_match (prefix_list V4 list all) r.prefix
 
 -- what a plain entry that decides makes of a route
 abbrev pub plain_outcome : RouteParts → Plain → Outcome

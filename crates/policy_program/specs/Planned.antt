@@ -4,7 +4,7 @@ use Rattle.std.specs.List.{AllByRecursion}
 use Rattle.std.specs.Borrow.{Bor}
 use Rattle.std.specs.BTreeMap.{BTreeMap}
 use Rattle.std.specs.declared.alloc.Global.{Global}
-use Rattle.route_types.specs.Range.{RangeParts}
+use Rattle.prefix_sets.specs.Range.{RangeParts}
 use Rattle.rpl_reader.specs.Layout.{Step, policy_text}
 use Rattle.rpl_reader.specs.Written.{IsWritable}
 use Rattle.policy_program.specs.Plan.{Plain, ranges_at}

@@ -5,7 +5,7 @@ use Rattle.std.specs.Ordering.{nat_cmp}
 use Rattle.std.specs.Cmp.Lexicographic.{slice_cmp}
 use Rattle.std.specs.BTreeMap.{BTreeMap, get_by}
 use Rattle.std.specs.declared.alloc.Global.{Global}
-use Rattle.route_types.specs.Range.{RangeParts}
+use Rattle.prefix_sets.specs.Range.{RangeParts}
 use Rattle.policy_program.specs.Plan.{ranges_at}
 
 -- the sets stay, or these ranges were put behind them

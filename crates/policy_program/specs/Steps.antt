@@ -1,7 +1,7 @@
 -- Steps and sets of the code as the layout sees them, and pieces of the layout.
 use Rattle.std.specs.Prelude.{ℕ, List, [], ◌∷◌, ◌++◌, map, codes, decimal}
 use Rattle.std.specs.Borrow.{Bor}
-use Rattle.route_types.specs.Range.{RangeParts}
+use Rattle.prefix_sets.specs.Range.{RangeParts}
 use Rattle.rpl_reader.specs.Layout.{Step as Written, set_name, actions_text, elements_text, steps_text}
 use Rattle.policy_program.specs.declared.rpl_text.Step.{Step}
 

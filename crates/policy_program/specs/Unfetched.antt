@@ -1,4 +1,4 @@
--- How a fault of fetching the source is told: its status, and its line on `err`.
+-- How a fault of a fetch is told: its status, and its line on `err`.
 use Rattle.std.specs.Prelude.{ℕ, List}
 use Rattle.policy_outside.specs.declared.faults.FetchFault.{FetchFault}
 use Rattle.policy_outside.specs.declared.faults.FetchFault.TheVariants.{Failed, TooLong, Memory}

@@ -1,151 +1,164 @@
-// The words of the command, and the request that they make.
-ghost use Rattle.std.specs.Prelude.{◌≡◌, map, option_map, IfSome, IfNone};
-ghost use Rattle.std.specs.List.{list_all};
+// The words of the commands, and the request that they make.
+ghost use Rattle.std.specs.Prelude.{◌≡◌, IfOk, IsErrOf, map, option_map};
 ghost use Rattle.std.specs.String.{string_bytes};
-ghost use Rattle.rpl_reader.specs.Written.{is_letter, is_name_byte, is_new_name};
-ghost use Rattle.policy_program.specs.Command.{Accepts, IsRefused, is_policy_byte, is_policy_word};
-ghost use Rattle.policy_program.specs.Spelled.{request_view, behind, first_word, only_word, source_part, target_part, request_in};
+ghost use Rattle.clap.specs.Words.{found_of, rows_of};
+ghost use Rattle.policy_program.specs.Command.{Accepts, IsRefused, judge_view, request_view, translate_view};
+ghost use Rattle.policy_program.specs.declared.command.WordsFault.{WordsFault};
+ghost use Rattle.policy_program.specs.Spelled.{AnswersBy, judge_asked, judge_in, request_in, translate_asked, translate_in};
+
+use crate::clap_command::{judge_command, parsed, translate_command, value};
+use crate::word_forms::{is_new_name, is_policy_word};
+use clap::ArgMatches;
+use std::alloc::{AllocError, Global};
 
 /// What the words ask for.
 #[derive(Clone, Copy, Debug)]
-pub struct Request<'a> {
+pub enum Request<'a> {
+    /// To write a policy in another language.
+    Translate(TranslateWords<'a>),
+    /// To tell what a policy makes of one route.
+    Judge(JudgeWords<'a>),
+}
+
+/// The words of `translate --from ios --policy P --to rpl --as NAME FILE`.
+#[derive(Clone, Copy, Debug)]
+pub struct TranslateWords<'a> {
     /// The name of the policy in the source.
-    pub policy: &'a [u8],
+    pub policy: &'a str,
     /// The name of the policy in the target.
-    pub name: &'a [u8],
+    pub name: &'a str,
     /// The source's name on the shelf.
     pub file: &'a str,
 }
 
-/// The request that the words make, and `None` exactly where they make none. It takes no memory.
-///
-/// The words are `translate --from ios --policy P --to rpl --as NAME FILE`, in this order. P is not empty
-/// and has no byte below 33 and no quote; NAME is an ASCII letter, then at most 62 letters, digits, `-` or `_`.
-#[tactic(auto, using(crate::proofs::Spelled::accepted, crate::proofs::Spelled::refused))]
-pub fn read_words(words: &[String]) -> Option<Request<'_>>
-    ensures found { IfSome result (λ q. Accepts (map string_bytes words.now) (request_view q)) }
-    ensures none { IfNone result (IsRefused (map string_bytes words.now)) }
-{
-    request_in(words)
+/// The words of `judge --from ios --policy P FILE ROUTEFILE`.
+#[derive(Clone, Copy, Debug)]
+pub struct JudgeWords<'a> {
+    /// The name of the policy in the source.
+    pub policy: &'a str,
+    /// The source's name on the shelf.
+    pub file: &'a str,
+    /// The name on the shelf of the text that spells the route.
+    pub route_file: &'a str,
 }
 
-#[tactic(auto, unfolding(crate::specs::Spelled::request_in))]
-fn request_in(words: &[String]) -> Option<Request<'_>>
-    ensures { option_map request_view result ≡ request_in (map string_bytes words.now) }
+/// Why no request was made of the words.
+#[derive(Clone, Copy, Debug, PartialEq, Eq)]
+pub enum WordsFault {
+    /// The words make no request.
+    Usage,
+    /// Want of memory.
+    Memory,
+}
+
+impl From<AllocError> for WordsFault {
+    ghost from_gives = { λ _ fault. fault ≡ WordsFault.Memory };
+
+    fn from(_error: AllocError) -> WordsFault {
+        WordsFault::Memory
+    }
+}
+
+/// The request that the words make.
+///
+/// The first word is the verb, `translate` or `judge`; the other words are read by clap: each option takes
+/// one value and is required, and so are the files. P is not empty and has no byte below 33 and no quote; NAME
+/// is an ASCII letter, then at most 62 letters, digits, `-` or `_`. `Usage` comes only for words that make no
+/// request.
+#[tactic(auto, using(crate::proofs::Words::accepted, crate::proofs::Words::refused))]
+pub fn read_words(alloc: Global, words: &[String]) -> Result<Request<'_>, WordsFault>
+    ensures accepted { IfOk result (λ q. Accepts (map string_bytes words.now) (request_view q)) }
+    ensures usage { IsErrOf result WordsFault.Usage → IsRefused (map string_bytes words.now) }
 {
-    let (policy, rest) = source_part(words)?;
-    let (name, rest) = target_part(rest)?;
-    let file = only_word(rest)?;
+    read_verb(alloc, words)
+}
+
+/// The request by the first word.
+#[tactic(auto, unfolding(crate::specs::Spelled::request_in))]
+fn read_verb(alloc: Global, words: &[String]) -> Result<Request<'_>, WordsFault>
+    ensures { AnswersBy (request_in (map string_bytes words.now)) result }
+{
+    let [verb, ..] = words else {
+        return Err(WordsFault::Usage);
+    };
+    if verb.as_str() == "translate" {
+        return read_translate(alloc, words);
+    }
+    if verb.as_str() == "judge" {
+        return read_judge(alloc, words);
+    }
+    Err(WordsFault::Usage)
+}
+
+/// The request of `translate`.
+#[tactic(auto, using(crate::proofs::ClapParse::translate_simple), unfolding(crate::specs::Spelled::translate_asked))]
+fn read_translate(alloc: Global, words: &[String]) -> Result<Request<'_>, WordsFault>
+    ensures { AnswersBy (translate_asked (map string_bytes words.now)) result }
+{
+    let command = translate_command(alloc)?;
+    let matches = parsed(command, words)?;
+    match translate_words(&matches) {
+        Some(asked) => Ok(Request::Translate(asked)),
+        None => Err(WordsFault::Usage),
+    }
+}
+
+/// The request of `judge`.
+#[tactic(auto, using(crate::proofs::ClapParse::judge_simple), unfolding(crate::specs::Spelled::judge_asked))]
+fn read_judge(alloc: Global, words: &[String]) -> Result<Request<'_>, WordsFault>
+    ensures { AnswersBy (judge_asked (map string_bytes words.now)) result }
+{
+    let command = judge_command(alloc)?;
+    let matches = parsed(command, words)?;
+    match judge_words(&matches) {
+        Some(asked) => Ok(Request::Judge(asked)),
+        None => Err(WordsFault::Usage),
+    }
+}
+
+/// What `translate` is asked by its values.
+#[tactic(auto, unfolding(crate::specs::Spelled::translate_in))]
+fn translate_words<'a>(matches: &ArgMatches<'a>) -> Option<TranslateWords<'a>>
+    ensures { option_map translate_view result ≡ translate_in (rows_of (found_of matches.now)) }
+{
+    let source = value(matches, "from")?;
+    if source != "ios" {
+        return None;
+    }
+    let target = value(matches, "to")?;
+    if target != "rpl" {
+        return None;
+    }
+    let policy = value(matches, "policy")?;
     if !is_policy_word(policy.as_bytes()) {
         return None;
     }
+    let name = value(matches, "as")?;
     if !is_new_name(name.as_bytes()) {
         return None;
     }
-    Some(Request {
-        policy: policy.as_bytes(),
-        name: name.as_bytes(),
-        file,
-    })
+    let file = value(matches, "file")?;
+    Some(TranslateWords { policy, name, file })
 }
 
-#[tactic(auto, unfolding(crate::specs::Spelled::source_part))]
-fn source_part(words: &[String]) -> Option<(&str, &[String])>
-    ensures { option_map (λ p. (p.0.now, map string_bytes p.1.now)) result ≡ source_part (map string_bytes words.now) }
+/// What `judge` is asked by its values.
+#[tactic(auto, unfolding(crate::specs::Spelled::judge_in))]
+fn judge_words<'a>(matches: &ArgMatches<'a>) -> Option<JudgeWords<'a>>
+    ensures { option_map judge_view result ≡ judge_in (rows_of (found_of matches.now)) }
 {
-    let rest = behind("translate", words)?;
-    let rest = behind("--from", rest)?;
-    let rest = behind("ios", rest)?;
-    let rest = behind("--policy", rest)?;
-    first_word(rest)
-}
-
-#[tactic(auto, unfolding(crate::specs::Spelled::target_part))]
-fn target_part(words: &[String]) -> Option<(&str, &[String])>
-    ensures { option_map (λ p. (p.0.now, map string_bytes p.1.now)) result ≡ target_part (map string_bytes words.now) }
-{
-    let rest = behind("--to", words)?;
-    let rest = behind("rpl", rest)?;
-    let rest = behind("--as", rest)?;
-    first_word(rest)
-}
-
-/// The words behind this one.
-fn behind<'a>(word: &str, words: &'a [String]) -> Option<&'a [String]>
-    ensures { option_map (λ rest. map string_bytes rest.now) result ≡ behind word.now (map string_bytes words.now) }
-{
-    let [first, rest @ ..] = words else {
-        return None;
-    };
-    if first.as_str() != word {
+    let source = value(matches, "from")?;
+    if source != "ios" {
         return None;
     }
-    Some(rest)
-}
-
-/// The first word, and those behind it.
-fn first_word(words: &[String]) -> Option<(&str, &[String])>
-    ensures { option_map (λ p. (p.0.now, map string_bytes p.1.now)) result ≡ first_word (map string_bytes words.now) }
-{
-    let [first, rest @ ..] = words else {
+    let policy = value(matches, "policy")?;
+    if !is_policy_word(policy.as_bytes()) {
         return None;
-    };
-    Some((first.as_str(), rest))
-}
-
-/// The one word, where there is no other.
-fn only_word(words: &[String]) -> Option<&str>
-    ensures { option_map (λ word. word.now) result ≡ only_word (map string_bytes words.now) }
-{
-    let [only] = words else {
-        return None;
-    };
-    Some(only.as_str())
-}
-
-fn is_policy_byte(byte: u8) -> bool
-    ensures { result ≡ is_policy_byte byte }
-{
-    byte >= 33 && byte != b'"' && byte != b'\''
-}
-
-fn are_policy_bytes(bytes: &[u8]) -> bool
-    ensures { result ≡ list_all is_policy_byte bytes.now }
-{
-    bytes.iter().all(|byte| is_policy_byte(*byte))
-}
-
-/// Whether a word names a policy of a source.
-fn is_policy_word(word: &[u8]) -> bool
-    ensures { result ≡ is_policy_word word.now }
-{
-    !word.is_empty() && are_policy_bytes(word)
-}
-
-fn is_letter(byte: u8) -> bool
-    ensures { result ≡ is_letter byte }
-{
-    byte.is_ascii_alphabetic()
-}
-
-fn is_name_byte(byte: u8) -> bool
-    ensures { result ≡ is_name_byte byte }
-{
-    is_letter(byte) || byte.is_ascii_digit() || byte == b'-' || byte == b'_'
-}
-
-fn are_name_bytes(bytes: &[u8]) -> bool
-    ensures { result ≡ list_all is_name_byte bytes.now }
-{
-    bytes.iter().all(|byte| is_name_byte(*byte))
-}
-
-/// Whether a word names a policy of a target.
-fn is_new_name(word: &[u8]) -> bool
-    ensures { result ≡ is_new_name word.now }
-{
-    let [first, rest @ ..] = word else {
-        return false;
-    };
-    is_letter(*first) && are_name_bytes(rest) && rest.len() <= 62
+    }
+    let file = value(matches, "file")?;
+    let route_file = value(matches, "route-file")?;
+    Some(JudgeWords {
+        policy,
+        file,
+        route_file,
+    })
 }

@@ -2,12 +2,12 @@
 ghost use Rattle.std.specs.Prelude.{◌≡◌, map};
 ghost use Rattle.policy_outside.specs.Sink.{joined};
 ghost use Rattle.policy_program.specs.Ends.{ReceivedLine};
-ghost use Rattle.policy_program.specs.Lines.{cause_name, usage_line, no_policy_line, fault_line, outside_line, unread_line, too_long_line, unwritten_line, memory_line};
+ghost use Rattle.policy_program.specs.Lines.{cause_name, usage_line, no_policy_line, fault_line, outside_line, unread_line, too_long_line, unwritten_line, memory_line, not_route_line};
 
 use crate::place::place_of;
 use itoa::Buffer;
 use policy_outside::{Sink, put_line};
-use route_types::{Cause, Span};
+use policy_text::{Cause, Span};
 
 /// The name of a cause as it is printed: lower case, with dashes between its words.
 pub fn cause_name(cause: Cause) -> &'static str
@@ -124,4 +124,17 @@ pub(crate) fn tell_memory<E: Sink>(err: &mut E)
     ensures { ReceivedLine (record { before = E.seen err.old; now = E.seen err.new }) memory_line }
 {
     tell(err, &[b"out of memory\n"]);
+}
+
+/// Tells that the file spells no route, by the number of its first line that is not the form.
+pub(crate) fn tell_not_route<E: Sink>(err: &mut E, file: &str, number: u64)
+    ensures { ReceivedLine (record { before = E.seen err.old; now = E.seen err.new })
+        (not_route_line file.now number) }
+{
+    let mut digits = Buffer::new();
+    let digits = digits.format(number);
+    tell(
+        err,
+        &[file.as_bytes(), b":", digits.as_bytes(), b": not a route\n"],
+    );
 }

@@ -1,9 +1,10 @@
 // How a route-map is taken for writing: its lists, its entries in order of their numbers, and the sets
 // and steps that say the same.
 ghost use Rattle.std.specs.Prelude.{◌≡◌, ℕ, IfOk, OnOk, List, [], ◌∷◌, ◌++◌, map, option_map, bytes_eq, false};
-ghost use Rattle.std.specs.List.Sorted.{IsPermutation, IsNonDecreasingBy};
-ghost use Rattle.ios_reader.specs.Profile.{is_line_sort, sort_of_form};
-ghost use Rattle.ios_reader.specs.Meaning.{lines_below, entries_of};
+ghost use Rattle.std.specs.List.Sorted.{IsPermutation};
+ghost use Rattle.ios_reader.specs.Sorts.{is_line_sort, sort_of_form};
+ghost use Rattle.ios_reader.specs.Entries.{lines_below, entries_of};
+ghost use Rattle.ios_meaning.specs.Order.{in_order};
 ghost use Rattle.policy_program.specs.Steps.{step_of, steps_of, contents};
 ghost use Rattle.policy_program.specs.Planned.{Plans, AreRangesOf, counting};
 ghost use Rattle.policy_program.specs.Plan.{guard_of, preferences_of, plain_entry, plain_entries, entry_view, entry_views, list_entries, ranges_named, ranges_at};
@@ -11,8 +12,9 @@ ghost use Rattle.policy_program.specs.Plan.{guard_of, preferences_of, plain_entr
 use crate::rpl_text::Step;
 use crate::sets::set_place;
 use indexmap::IndexSet;
-use ios_reader::{IosForm, IosItem, ItemSort, MapHeader, PrefixEntry};
-use route_types::{Memory, PrefixRange};
+use ios_reader::{IosForm, IosItem, ItemSort, MapHeader, MapLine, PrefixListEntry};
+use prefix_sets::PrefixRange;
+use route_types::Memory;
 use std::alloc::Global;
 use std::collections::BTreeMap;
 
@@ -34,18 +36,22 @@ fn is_line(form: &IosForm) -> bool
     ensures { result ≡ is_line_sort (sort_of_form form.now) }
 {
     match form {
-        IosForm::PrefixEntry(_) | IosForm::MapHeader(_) => false,
-        IosForm::MatchPrefix(_) | IosForm::SetLocalPreference(_) => true,
+        IosForm::PrefixEntry(_)
+        | IosForm::PrefixDescription(_)
+        | IosForm::CommunityEntry(_)
+        | IosForm::MapHeader(_) => false,
+        IosForm::Line(_) => true,
         IosForm::Other(other) => match other.sort {
-            ItemSort::PrefixList | ItemSort::CommunityList | ItemSort::PathList | ItemSort::Map => {
-                false
-            }
+            ItemSort::PrefixList(_)
+            | ItemSort::CommunityList
+            | ItemSort::PathList
+            | ItemSort::Map => false,
             ItemSort::Line => true,
         },
     }
 }
 
-/// The name of the list of the first match line, if there is one.
+/// The name of the list of the first line `match ip address prefix-list`, if there is one.
 fn guard_of<'a>(below: &'a [IosItem]) -> Option<&'a [u8]>
     ensures { option_map (λ name. name.now) result ≡ guard_of (lines_below below.now) }
 {
@@ -54,8 +60,8 @@ fn guard_of<'a>(below: &'a [IosItem]) -> Option<&'a [u8]>
         if !is_line(&item.form) {
             return None;
         }
-        if let IosForm::MatchPrefix(names) = &item.form {
-            if let [name, ..] = names.as_slice() {
+        if let IosForm::Line(MapLine::MatchPrefix(tested)) = &item.form {
+            if let [name, ..] = tested.lists.as_slice() {
                 return Some(name.as_slice());
             }
         }
@@ -74,7 +80,7 @@ fn preferences_of(alloc: Global, below: &[IosItem]) -> Result<Vec<u32>, Memory>
         if !is_line(&item.form) {
             return Ok(found);
         }
-        if let IosForm::SetLocalPreference(preference) = item.form {
+        if let IosForm::Line(MapLine::SetLocalPreference(preference)) = item.form {
             found.push(preference)?;
         }
         rest = others;
@@ -108,30 +114,34 @@ fn entries_of<'a>(
     Ok(found)
 }
 
-/// The entries of all prefix lists, in text order.
-fn list_entries<'a>(alloc: Global, items: &'a [IosItem]) -> Result<Vec<&'a PrefixEntry>, Memory>
-    ensures { IfOk result (λ found. map (λ e. e.now) found.items ≡ list_entries items.now) }
+/// The entries of all prefix lists, each behind its number, in text order.
+fn list_entries<'a>(
+    alloc: Global,
+    items: &'a [IosItem],
+) -> Result<Vec<(u64, &'a PrefixListEntry)>, Memory>
+    ensures { IfOk result (λ found. map (λ e. e.1.now) found.items ≡ list_entries items.now) }
 {
     let mut found = Vec::new(alloc);
     let mut rest = items;
     while let [item, others @ ..] = rest {
         if let IosForm::PrefixEntry(entry) = &item.form {
-            found.push(entry)?;
+            found.push((entry.number, entry))?;
         }
         rest = others;
     }
     Ok(found)
 }
 
-/// The entries of all prefix lists, in order of their numbers.
+/// The entries of all prefix lists, in order of their numbers. Each stands behind its number, so that the
+/// sort need not look at the entries themselves.
 pub fn ordered_list_entries<'a>(
     alloc: Global,
     items: &'a [IosItem],
-) -> Result<Vec<&'a PrefixEntry>, Memory>
-    ensures { IfOk result (λ found. IsPermutation (list_entries items.now) (map (λ e. e.now) found.items)) }
+) -> Result<Vec<(u64, &'a PrefixListEntry)>, Memory>
+    ensures { IfOk result (λ found. IsPermutation (list_entries items.now) (map (λ e. e.1.now) found.items)) }
 {
     let mut found = list_entries(alloc, items)?;
-    found.sort_by_key(|entry| entry.number)?;
+    found.sort_by_key(|entry| entry.0)?;
     Ok(found)
 }
 
@@ -141,8 +151,7 @@ pub fn ordered_entries<'a>(
     name: &[u8],
     items: &'a [IosItem],
 ) -> Result<Vec<PlainEntry<'a>>, Memory>
-    ensures same { IfOk result (λ found. IsPermutation (plain_entries (entries_of name.now items.now)) (entry_views found.items)) }
-    ensures ordered { IfOk result (λ found. IsNonDecreasingBy (λ e. e.number) found.items) }
+    ensures { IfOk result (λ found. entry_views found.items ≡ in_order (λ e. e.number) (plain_entries (entries_of name.now items.now))) }
 {
     let mut found = entries_of(alloc, name, items)?;
     found.sort_by_key(|entry| entry.number)?;
@@ -168,27 +177,28 @@ fn taken_ranges<'a>(
 fn add_range<'a>(
     alloc: Global,
     lists: &mut BTreeMap<&'a [u8], Vec<PrefixRange>>,
-    entry: &'a PrefixEntry,
+    entry: &'a PrefixListEntry,
 ) -> Result<(), Memory>
     ensures { IfOk result (λ _. (q : List ℕ) → ranges_at lists.new q ≡ ranges_at lists.old q ++ ranges_named q (entry.now ∷ [])) }
 {
     let name = entry.list.as_slice();
     let mut ranges = taken_ranges(alloc, lists, name);
-    ranges.push(entry.range)?;
+    ranges.push(entry.entry.range)?;
     lists.insert(name, ranges)?;
     Ok(())
 }
 
-/// The ranges of the lists, each under its name, in order of the entries.
+/// The ranges of the lists, each under its name, in order of the entries, whether these permit or deny.
+/// Where a policy is taken, the entries of the lists that it names permit.
 pub fn ranges_by_list<'a>(
     alloc: Global,
-    entries: &[&'a PrefixEntry],
+    entries: &[(u64, &'a PrefixListEntry)],
 ) -> Result<BTreeMap<&'a [u8], Vec<PrefixRange>>, Memory>
-    ensures { IfOk result (λ lists. (q : List ℕ) → ranges_at lists q ≡ ranges_named q (map (λ e. e.now) entries.now)) }
+    ensures { IfOk result (λ lists. (q : List ℕ) → ranges_at lists q ≡ ranges_named q (map (λ e. e.1.now) entries.now)) }
 {
     let mut lists: BTreeMap<&'a [u8], Vec<PrefixRange>> = BTreeMap::new(alloc);
     let mut rest = entries;
-    while let [entry, others @ ..] = rest {
+    while let [(_, entry), others @ ..] = rest {
         add_range(alloc, &mut lists, entry)?;
         rest = others;
     }

@@ -5,7 +5,8 @@ ghost use Rattle.rpl_reader.specs.Written.{IsPlainRange, IsPlainStep};
 ghost use Rattle.rpl_reader.specs.Layout.{set_name, lengths_text, element_text, elements_text, set_text, sets_text, preferences_text, verdict_text, actions_text, steps_text, policy_text};
 ghost use Rattle.policy_program.specs.Steps.{step_of, steps_of, contents, element_end, preference_text, guard_text, guarded_text, block_text};
 
-use route_types::{Memory, PrefixRange, push_number, push_prefix};
+use prefix_sets::PrefixRange;
+use route_types::{Memory, push_number, push_prefix};
 
 /// A step of a policy that is written: the place of the set that guards it, if one does, the local
 /// preferences that it sets in their order, and whether it accepts.

@@ -1,33 +1,34 @@
 // A run of the program: from its words to its status.
-ghost use Rattle.std.specs.Prelude.{◌≡◌, true, map};
+ghost use Rattle.std.specs.Prelude.{◌≡◌, Some, map};
 ghost use Rattle.std.specs.String.{string_bytes};
 ghost use Rattle.policy_outside.specs.Shelf.{Fetches};
-ghost use Rattle.rpl_reader.specs.Written.{is_new_name};
-ghost use Rattle.policy_program.specs.Spelled.{request_view};
+ghost use Rattle.policy_program.specs.Command.{request_view};
+ghost use Rattle.policy_program.specs.Requests.{file_of, second_file, IsWellNamed};
 ghost use Rattle.policy_program.specs.Ends.{ReceivedLine, EndsAs, most_bytes};
-ghost use Rattle.policy_program.specs.Lines.{usage_line};
-ghost use Rattle.policy_program.specs.Headline.{WritesTranslation};
+ghost use Rattle.policy_program.specs.Lines.{usage_line, memory_line};
+ghost use Rattle.policy_program.specs.Headline.{WritesResult};
 ghost use Rattle.policy_program.specs.Exact.{IsExact};
 ghost use Rattle.policy_program.specs.Complete.{IsComplete};
 ghost use Rattle.policy_program.specs.Refused.{refusal_status, refusal_line};
 ghost use Rattle.policy_program.specs.Unfetched.{fault_status, fault_line};
-ghost use Rattle.policy_program.specs.Layers.{WritesAs, AnswersAs, FetchesAndAnswers};
+ghost use Rattle.policy_program.specs.Layers.{WritesAs, AnswersAs, SecondAs, GoesOn, FetchesAndAnswers};
 
-use crate::command::{Request, read_words};
+use crate::command::{Request, WordsFault, read_words};
 use crate::lines::{
-    tell_memory, tell_no_policy, tell_outside, tell_too_long, tell_unread, tell_unwritten,
-    tell_usage,
+    tell_memory, tell_no_policy, tell_not_route, tell_outside, tell_too_long, tell_unread,
+    tell_unwritten, tell_usage,
 };
+use crate::refusal::Refusal;
+use crate::request::{answer, file_of, policy_of, second_file};
 use crate::status::Status;
-use crate::translate::{Refusal, translate};
 use policy_outside::{FetchFault, PutFault, Shelf, Sink, put_lines};
 use std::alloc::Global;
 
-/// The greatest length of a source, in bytes.
+/// The greatest length of a source or a route file, in bytes.
 const MOST_BYTES: u64 = 16_777_216;
 
-/// Does what the words ask for: fetches the source from `shelf`, writes its translation to `out`, and on
-/// any status but `Done` puts one line to `err`.
+/// Does what the words ask for: fetches the policy's file from `shelf`, and then the route file where there
+/// is one, writes the result of the verb to `out`, and on any status but `Done` puts one line to `err`.
 ///
 /// The result is complete before the first put to `out`, and what `err` does changes neither status nor `out`.
 pub fn run<S: Shelf, O: Sink, E: Sink>(
@@ -37,7 +38,7 @@ pub fn run<S: Shelf, O: Sink, E: Sink>(
     out: &mut O,
     err: &mut E,
 ) -> Status
-    ensures headline { result ≡ Status.Done → WritesTranslation (map string_bytes words.now)
+    ensures headline { result ≡ Status.Done → WritesResult (map string_bytes words.now)
         (record { before = S.seen shelf.old; now = S.seen shelf.new })
         (record { before = O.seen out.old; now = O.seen out.new }) }
     ensures complete { IsComplete (map string_bytes words.now)
@@ -53,6 +54,7 @@ pub fn run<S: Shelf, O: Sink, E: Sink>(
 }
 
 /// Does what the words ask for.
+#[tactic(auto, using(crate::proofs::Endings::well_named))]
 fn run_words<S: Shelf, O: Sink, E: Sink>(
     alloc: Global,
     words: &[String],
@@ -65,9 +67,10 @@ fn run_words<S: Shelf, O: Sink, E: Sink>(
         (record { before = O.seen out.old; now = O.seen out.new })
         (record { before = E.seen err.old; now = E.seen err.new }) result }
 {
-    match read_words(words) {
-        Some(request) => answer_request(alloc, &request, shelf, out, err),
-        None => refuse_words(err),
+    match read_words(alloc, words) {
+        Ok(request) => answer_request(alloc, &request, shelf, out, err),
+        Err(WordsFault::Usage) => refuse_words(err),
+        Err(WordsFault::Memory) => refuse_for_memory(err),
     }
 }
 
@@ -80,6 +83,15 @@ fn refuse_words<E: Sink>(err: &mut E) -> Status
     Status::Usage
 }
 
+/// Tells want of memory.
+fn refuse_for_memory<E: Sink>(err: &mut E) -> Status
+    ensures status { result ≡ Status.Memory }
+    ensures line { ReceivedLine (record { before = E.seen err.old; now = E.seen err.new }) memory_line }
+{
+    tell_memory(err);
+    Status::Memory
+}
+
 /// Answers a request, from the fetch of its source on.
 fn answer_request<S: Shelf, O: Sink, E: Sink>(
     alloc: Global,
@@ -88,42 +100,81 @@ fn answer_request<S: Shelf, O: Sink, E: Sink>(
     out: &mut O,
     err: &mut E,
 ) -> Status
-    requires { is_new_name request.now.name.now ≡ true }
+    requires { IsWellNamed (request_view request.now) }
     ensures { FetchesAndAnswers (request_view request.now)
         (record { before = S.seen shelf.old; now = S.seen shelf.new })
         (record { before = O.seen out.old; now = O.seen out.new })
         (record { before = E.seen err.old; now = E.seen err.new }) result }
 {
-    match fetch_source(alloc, request, shelf) {
-        Ok(source) => answer_source(alloc, request, source.as_slice(), out, err),
-        Err(fault) => refuse_fetch(request, fault, err),
+    let file = file_of(request);
+    match fetch(alloc, file, shelf) {
+        Ok(source) => answer_source(alloc, request, source.as_slice(), shelf, out, err),
+        Err(fault) => refuse_fetch(file, fault, err),
     }
 }
 
-/// The source of a request.
-fn fetch_source<S: Shelf>(
+/// Answers a request whose source is at hand, from the fetch of its second file on.
+fn answer_source<S: Shelf, O: Sink, E: Sink>(
     alloc: Global,
     request: &Request<'_>,
+    source: &[u8],
     shelf: &mut S,
-) -> Result<Vec<u8>, FetchFault>
-    ensures { Fetches (S.seen shelf.old) (S.seen shelf.new) request.now.file.now most_bytes result }
+    out: &mut O,
+    err: &mut E,
+) -> Status
+    requires { IsWellNamed (request_view request.now) }
+    ensures { GoesOn (request_view request.now) source.now (second_file (request_view request.now))
+        (record { before = S.seen shelf.old; now = S.seen shelf.new })
+        (record { before = O.seen out.old; now = O.seen out.new })
+        (record { before = E.seen err.old; now = E.seen err.new }) result }
 {
-    shelf.fetch(alloc, request.file, MOST_BYTES)
+    match second_file(request) {
+        Some(file) => answer_second(alloc, request, source, file, shelf, out, err),
+        None => answer_texts(alloc, request, source, &[], out, err),
+    }
 }
 
-/// Tells a fault of the fetch.
-fn refuse_fetch<E: Sink>(request: &Request<'_>, fault: FetchFault, err: &mut E) -> Status
+/// Answers a request whose source is at hand and whose second file is this.
+fn answer_second<S: Shelf, O: Sink, E: Sink>(
+    alloc: Global,
+    request: &Request<'_>,
+    source: &[u8],
+    file: &str,
+    shelf: &mut S,
+    out: &mut O,
+    err: &mut E,
+) -> Status
+    requires { IsWellNamed (request_view request.now) }
+    ensures { SecondAs (request_view request.now) source.now file.now
+        (record { before = S.seen shelf.old; now = S.seen shelf.new })
+        (record { before = O.seen out.old; now = O.seen out.new })
+        (record { before = E.seen err.old; now = E.seen err.new }) result }
+{
+    match fetch(alloc, file, shelf) {
+        Ok(second) => answer_texts(alloc, request, source, second.as_slice(), out, err),
+        Err(fault) => refuse_fetch(file, fault, err),
+    }
+}
+
+/// The text of a file.
+fn fetch<S: Shelf>(alloc: Global, file: &str, shelf: &mut S) -> Result<Vec<u8>, FetchFault>
+    ensures { Fetches (S.seen shelf.old) (S.seen shelf.new) file.now most_bytes result }
+{
+    shelf.fetch(alloc, file, MOST_BYTES)
+}
+
+/// Tells a fault of the fetch of a file.
+fn refuse_fetch<E: Sink>(file: &str, fault: FetchFault, err: &mut E) -> Status
     ensures status { result ≡ fault_status fault }
-    ensures line { ReceivedLine (record { before = E.seen err.old; now = E.seen err.new })
-        (fault_line request.now.file.now fault) }
+    ensures line { ReceivedLine (record { before = E.seen err.old; now = E.seen err.new }) (fault_line file.now fault) }
 {
     match fault {
         FetchFault::Failed => {
-            tell_unread(err, request.file);
+            tell_unread(err, file);
             Status::FetchFailed
         }
         FetchFault::TooLong => {
-            tell_too_long(err, request.file);
+            tell_too_long(err, file);
             Status::TooLong
         }
         FetchFault::Memory => {
@@ -133,26 +184,27 @@ fn refuse_fetch<E: Sink>(request: &Request<'_>, fault: FetchFault, err: &mut E) 
     }
 }
 
-/// Answers a request whose source is at hand.
-fn answer_source<O: Sink, E: Sink>(
+/// Answers a request whose texts are at hand.
+fn answer_texts<O: Sink, E: Sink>(
     alloc: Global,
     request: &Request<'_>,
     source: &[u8],
+    second: &[u8],
     out: &mut O,
     err: &mut E,
 ) -> Status
-    requires { is_new_name request.now.name.now ≡ true }
-    ensures { AnswersAs (request_view request.now) source.now
+    requires { IsWellNamed (request_view request.now) }
+    ensures { AnswersAs (request_view request.now) source.now second.now
         (record { before = O.seen out.old; now = O.seen out.new })
         (record { before = E.seen err.old; now = E.seen err.new }) result }
 {
-    match translate(alloc, source, request.policy, request.name) {
-        Ok(target) => write(target.as_slice(), out, err),
+    match answer(alloc, request, source, second) {
+        Ok(text) => write(text.as_slice(), out, err),
         Err(refusal) => refuse(request, source, refusal, err),
     }
 }
 
-/// Tells why the policy was not translated.
+/// Tells why the request has no result.
 fn refuse<E: Sink>(request: &Request<'_>, source: &[u8], refusal: Refusal, err: &mut E) -> Status
     ensures status { result ≡ refusal_status refusal }
     ensures line { ReceivedLine (record { before = E.seen err.old; now = E.seen err.new })
@@ -160,12 +212,16 @@ fn refuse<E: Sink>(request: &Request<'_>, source: &[u8], refusal: Refusal, err: 
 {
     match refusal {
         Refusal::NoPolicy => {
-            tell_no_policy(err, request.file, request.policy);
+            tell_no_policy(err, file_of(request), policy_of(request).as_bytes());
             Status::NoPolicy
         }
         Refusal::Outside { span, cause } => {
-            tell_outside(err, request.file, source, span, cause);
+            tell_outside(err, file_of(request), source, span, cause);
             Status::Outside
+        }
+        Refusal::Route { line } => {
+            tell_not_route(err, second_file(request).unwrap_or(""), line);
+            Status::RouteRefused
         }
         Refusal::Memory => {
             tell_memory(err);

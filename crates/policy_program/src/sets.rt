@@ -5,7 +5,8 @@ ghost use Rattle.policy_program.specs.Steps.{contents};
 ghost use Rattle.policy_program.specs.Sets.{GrowsBy, ArePlaces};
 
 use indexmap::IndexSet;
-use route_types::{Memory, PrefixRange};
+use prefix_sets::PrefixRange;
+use route_types::Memory;
 use std::collections::BTreeMap;
 
 /// The ranges that stand under the name of a list; none where no list does.

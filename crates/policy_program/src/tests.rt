@@ -4,16 +4,20 @@ use policy_outside::{MemoryShelf, MemorySink};
 use std::alloc::AllocError;
 use std::test::Fail;
 
+mod causes;
+mod judge;
 mod refusals;
 mod texts;
+mod words;
 
-/// A run: its words, the name and the text that the shelf holds, and the numbers of the calls that fail,
-/// of which 0 is none.
+/// A run: its words, the name and the text that the shelf holds, a second name and text that it holds,
+/// and the numbers of the calls that fail, of which 0 is none.
 #[derive(Clone, Copy)]
 struct Case<'a> {
     words: &'a [&'a str],
     held: &'a str,
     text: &'a [u8],
+    second: Option<(&'a str, &'a [u8])>,
     failed_fetch: u64,
     failed_out: u64,
     failed_err: u64,
@@ -25,6 +29,7 @@ fn unfailing<'a>(words: &'a [&'a str], held: &'a str, text: &'a [u8]) -> Case<'a
         words,
         held,
         text,
+        second: None,
         failed_fetch: 0,
         failed_out: 0,
         failed_err: 0,
@@ -58,6 +63,9 @@ fn owned(alloc: Global, words: &[&str]) -> Result<Vec<String>, AllocError> {
 fn shelf_of(alloc: Global, case: &Case<'_>) -> Result<MemoryShelf, policy_outside::Memory> {
     let mut shelf = MemoryShelf::new(alloc);
     shelf.add(case.held, case.text)?;
+    if let Some((held, text)) = case.second {
+        shelf.add(held, text)?;
+    }
     shelf.fail_at(case.failed_fetch)?;
     Ok(shelf)
 }

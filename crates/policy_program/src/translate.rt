@@ -1,42 +1,18 @@
 // Translation of one policy from IOS to RPL.
-ghost use Rattle.std.specs.Prelude.{◌≡◌, true, MatchResult};
+ghost use Rattle.std.specs.Prelude.{◌≡◌, true, None, MatchResult};
 ghost use Rattle.std.specs.List.{AllByRecursion};
-ghost use Rattle.ios_reader.specs.Profile.{InProfile};
+ghost use Rattle.ios_reader.specs.declared.item.Forms.TheVariants.{First};
+ghost use Rattle.ios_reader.specs.Profile.{first_fault_within};
 ghost use Rattle.rpl_reader.specs.Written.{is_new_name};
 ghost use Rattle.policy_program.specs.Plan.{HasPlainForm};
 ghost use Rattle.policy_program.specs.Written.{Writes};
-ghost use Rattle.policy_program.specs.Translated.{Checks, Translates};
+ghost use Rattle.policy_program.specs.Translated.{Translates};
 
+use crate::checked::checked_policy;
+use crate::refusal::Refusal;
 use crate::write::write_policy;
-use ios_reader::{CheckedIos, check_ios, read_ios};
-use route_types::{Cause, CheckFault, Span};
+use ios_reader::{CheckedIos, Forms};
 use std::alloc::Global;
-
-/// Why a policy was not translated.
-#[derive(Clone, Copy, Debug, PartialEq, Eq)]
-pub enum Refusal {
-    /// No route-map stands under the name.
-    NoPolicy,
-    /// The policy lies outside the profile; this is its first fault.
-    Outside { span: Span, cause: Cause },
-    /// Want of memory.
-    Memory,
-}
-
-/// The policy of this name in the IOS text `source`, read and checked.
-fn checked_policy(alloc: Global, source: &[u8], policy: &[u8]) -> Result<CheckedIos, Refusal>
-    ensures { Checks source.now policy.now result }
-{
-    let Ok(tree) = read_ios(alloc, source) else {
-        return Err(Refusal::Memory);
-    };
-    match check_ios(alloc, tree, policy) {
-        Ok(checked) => Ok(checked),
-        Err(CheckFault::NoPolicy { .. }) => Err(Refusal::NoPolicy),
-        Err(CheckFault::Outside { span, cause }) => Err(Refusal::Outside { span, cause }),
-        Err(CheckFault::Memory) => Err(Refusal::Memory),
-    }
-}
 
 /// The text that says in RPL, under `name`, what a checked policy says.
 fn written_policy(
@@ -45,7 +21,7 @@ fn written_policy(
     policy: &[u8],
     name: &[u8],
 ) -> Result<Vec<u8>, Refusal>
-    requires in_profile { InProfile policy.now checked.now.items }
+    requires taken { first_fault_within First policy.now checked.now.items ≡ None }
     requires plain { AllByRecursion HasPlainForm checked.now.items }
     requires named { is_new_name name.now ≡ true }
     ensures { MatchResult result (λ text. Writes checked.now.items policy.now text.items name.now) (λ refusal. refusal ≡ Refusal.Memory) }
@@ -60,7 +36,9 @@ fn written_policy(
 /// The text that says in RPL, under `name`, what the route-map `policy` of the IOS text `source` says.
 ///
 /// `NoPolicy` where no route-map stands under the name, `Outside` with the first fault of the profile
-/// where the policy has one, `Memory` for want of memory.
+/// where the policy has one, a form that isn't taken being unknown, `Memory` for want of memory. These
+/// forms are taken: prefix list entries that permit under a written number, map headers, descriptions,
+/// `match ip address prefix-list` with one name, and `set local-preference`.
 pub fn translate(
     alloc: Global,
     source: &[u8],
@@ -70,7 +48,7 @@ pub fn translate(
     requires { is_new_name name.now ≡ true }
     ensures { Translates source.now policy.now name.now result }
 {
-    match checked_policy(alloc, source, policy) {
+    match checked_policy(alloc, source, policy, Forms::First) {
         Ok(checked) => written_policy(alloc, &checked, policy, name),
         Err(refusal) => Err(refusal),
     }

@@ -1,7 +1,8 @@
 // Writing a policy in RPL: its plan, and the text of that.
-ghost use Rattle.std.specs.Prelude.{◌≡◌, ℕ, List, IfOk, true};
+ghost use Rattle.std.specs.Prelude.{◌≡◌, ℕ, List, None, IfOk, true};
 ghost use Rattle.std.specs.List.{AllByRecursion};
-ghost use Rattle.ios_reader.specs.Profile.{InProfile};
+ghost use Rattle.ios_reader.specs.declared.item.Forms.TheVariants.{First};
+ghost use Rattle.ios_reader.specs.Profile.{first_fault_within};
 ghost use Rattle.rpl_reader.specs.Written.{is_new_name, IsPlainRange};
 ghost use Rattle.policy_program.specs.Plan.{HasPlainForm, ranges_at, entry_views};
 ghost use Rattle.policy_program.specs.Planned.{HavePreferences, IsTextOf};
@@ -11,7 +12,8 @@ use crate::plan::{PlainEntry, ordered_entries, ordered_list_entries, ranges_by_l
 use crate::rpl_text::push_policy;
 use indexmap::IndexSet;
 use ios_reader::IosItem;
-use route_types::{Memory, PrefixRange};
+use prefix_sets::PrefixRange;
+use route_types::Memory;
 use std::alloc::Global;
 use std::collections::BTreeMap;
 
@@ -35,15 +37,15 @@ fn text_of_entries<'a>(
     Ok(text)
 }
 
-/// The RPL text, under a new name, of the policy of this name among the items. Its one error is want of
-/// memory.
+/// The RPL text, under a new name, of the policy of this name among the items, all of whose statements are
+/// of forms that translation takes. Its one error is want of memory.
 pub fn write_policy(
     alloc: Global,
     items: &[IosItem],
     policy: &[u8],
     name: &[u8],
 ) -> Result<Vec<u8>, Memory>
-    requires in_profile { InProfile policy.now items.now }
+    requires taken { first_fault_within First policy.now items.now ≡ None }
     requires plain { AllByRecursion HasPlainForm items.now }
     requires named { is_new_name name.now ≡ true }
     ensures { IfOk result (λ text. Writes items.now policy.now text.items name.now) }

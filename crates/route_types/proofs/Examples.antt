@@ -2,7 +2,7 @@
 use Rattle.std.proofs.Common.{◌≡◌, refl, [], ◌∷◌, ◌++◌, map}
 use Rattle.std.specs.Prelude.{Some, None, codes}
 use Rattle.route_types.specs.Text.{lines_at}
-use Rattle.route_types.specs.Words.{number_in, prefix_in, parts_at, address_in}
+use Rattle.route_types.specs.Words.{number_in, prefix_in, parts_at, address_in, community_in}
 use Rattle.route_types.specs.declared.address.Family.TheVariants.{V4}
 
 two_lines : map (λ l. l.bytes) (lines_at 0 (codes "a" ++ (13 ∷ 10 ∷ codes "bc" ++ (13 ∷ [])))) ≡ codes "a" ∷ (codes "bc" ++ (13 ∷ [])) ∷ []
@@ -24,3 +24,7 @@ leading_zero = refl
 ten_slash_eight : prefix_in (codes "10.1.0.0/8") ≡ Some (record { address = record { family = V4; bits = 167772160 }; length = 8 })
 unfolding prefix_in number_in parts_at address_in
 ten_slash_eight = refl
+
+community : community_in (codes "65001:7") ≡ Some (record { 0 = 4259905543 })
+unfolding number_in parts_at community_in
+community = refl

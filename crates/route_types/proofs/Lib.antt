@@ -1,4 +1,5 @@
 mod Examples
+mod RouteExamples
 pub mod Numbers
 pub mod Spelled
 pub mod Walk
@@ -8,3 +9,11 @@ pub mod Bits
 pub mod Lines
 pub mod Sets
 pub mod Sorted
+pub mod LineWords
+pub mod FileLines
+pub mod EachWord
+pub mod RouteWords
+pub mod RouteSpelled
+pub mod RoutePrinted
+pub mod PrintedLines
+pub mod RouteRange

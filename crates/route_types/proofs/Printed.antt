@@ -1,5 +1,5 @@
 -- A printed prefix reads as itself.
-use Rattle.std.proofs.Common.{◌≡◌, sym, ap, subst, ◌∙◌, ℕ, Bool, false, ◌||◌, ◌+◌, ◌-◌, ◌*◌, ◌/◌, ◌%◌, ◌^◌, ◌<◌, ◌≤◌, List, [], ◌∷◌, ◌++◌, Some, arith, append_assoc}
+use Rattle.std.proofs.Common.{◌≡◌, sym, ap, subst, ◌∙◌, ℕ, Bool, false, ◌||◌, ◌+◌, ◌-◌, ◌*◌, ◌/◌, ◌%◌, ◌^◌, ◌<◌, ◌≤◌, List, ◌∷◌, ◌++◌, Some, arith}
 use Rattle.std.specs.Prelude.{decimal}
 use Rattle.std.specs.List.{list_any}
 use Rattle.std.proofs.lemmas.Bool.{or_from}
@@ -21,11 +21,11 @@ multiple n m e = omega (arith, div-add-mod' n m, e)
 pub octets_within : (a : Address) → a.bits < 2 ^ 32 → AreOctets (octets_of a)
 octets_within a h = record { first = omega arith; second = omega arith; third = omega arith; fourth = omega arith }
 
-octets_value : (b : ℕ) → ((b / 256 / 256 / 256 * 256 + b / 256 / 256 % 256) * 256 + b / 256 % 256) * 256 + b % 256 ≡ b
-octets_value b = omega arith
+octets_value : (b : ℕ) → b < 2 ^ 32 → ((b / 256 / 256 / 256 % 256 * 256 + b / 256 / 256 % 256) * 256 + b / 256 % 256) * 256 + b % 256 ≡ b
+octets_value b small = omega arith
 
-pub octets_address : (a : Address) → a.family ≡ V4 → address_of (octets_of a) ≡ a
-octets_address a e = ap2 (λ (f : Family) (b : ℕ). record { family = f; bits = b }) (sym e) (octets_value a.bits)
+pub octets_address : (a : Address) → a.family ≡ V4 → a.bits < 2 ^ 32 → address_of (octets_of a) ≡ a
+octets_address a e small = ap2 (λ (f : Family) (b : ℕ). record { family = f; bits = b }) (sym e) (octets_value a.bits small)
 
 -- a masked address is its own masked address
 pub masked_is : (p : PrefixParts) → IsMasked p.address p.length → prefix_of p.address p.length ≡ p
@@ -34,13 +34,13 @@ masked_is p h =
     let e : p.address.bits / block * block ≡ p.address.bits = multiple p.address.bits block h.masked in
     ap (λ (b : ℕ). record { address = record { family = p.address.family; bits = b }; length = p.length }) e
 
--- each IPv4 prefix is that of four numbers and a length
-pub octets_prefix : (p : PrefixParts) → p.address.family ≡ V4 → IsMasked p.address p.length → prefix_of (address_of (octets_of p.address)) p.length ≡ p
-octets_prefix p v4 h = ap (λ (a : Address). prefix_of a p.length) (octets_address p.address v4) ∙ masked_is p h
-
 small : (p : PrefixParts) → p.address.family ≡ V4 → IsMasked p.address p.length → (p.address.bits < 2 ^ 32) × (p.length ≤ 32)
 small p v4 h =
     (subst (λ (f : Family). p.address.bits < 2 ^ width f) v4 h.fits, subst (λ (f : Family). p.length ≤ width f) v4 h.within)
+
+-- each IPv4 prefix is that of four numbers and a length
+pub octets_prefix : (p : PrefixParts) → p.address.family ≡ V4 → IsMasked p.address p.length → prefix_of (address_of (octets_of p.address)) p.length ≡ p
+octets_prefix p v4 h = ap (λ (a : Address). prefix_of a p.length) (octets_address p.address v4 (small p v4 h).0) ∙ masked_is p h
 
 -- the text of an IPv4 prefix reads as that prefix
 pub prefix_in_printed : (p : PrefixParts) → p.address.family ≡ V4 → IsMasked p.address p.length → prefix_in (prefix_text p) ≡ Some p
@@ -67,7 +67,8 @@ prefix_of_plain a n v4 small within =
       };
     }
 
-address_fits : (o : Octets) → AreOctets o → (address_of o).bits < 2 ^ 32
+-- four bytes make an address of 32 bits
+pub address_fits : (o : Octets) → AreOctets o → (address_of o).bits < 2 ^ 32
 address_fits o h = omega (arith, h.first, h.second, h.third, h.fourth)
 
 pub prefix_in_plain : (word : List ℕ) (p : PrefixParts) → prefix_in word ≡ Some p → IsPlain p
@@ -76,34 +77,6 @@ prefix_in_plain word p e =
     let a = f.spells_address in
     let octets : AreOctets a.octets = record { first = a.first; second = a.second; third = a.third; fourth = a.fourth } in
     subst IsPlain (sym f.value) (prefix_of_plain f.address f.length (ap (λ (x : Address). x.family) a.value) (subst (λ (x : Address). x.bits < 2 ^ 32) (sym a.value) (address_fits a.octets octets)) f.within)
-
-regroup : (old a b c d e : List ℕ) → ((((old ++ (a ++ (46 ∷ []))) ++ (b ++ (46 ∷ []))) ++ (c ++ (46 ∷ []))) ++ (d ++ (47 ∷ []))) ++ e ≡ old ++ ((a ++ (46 ∷ b ++ (46 ∷ c ++ (46 ∷ d)))) ++ (47 ∷ e))
-regroup old a b c d e = simp append_assoc
-
--- the five numbers of a prefix's text
-pub record AreNumbers (p : PrefixParts) (a b c d n : ℕ) : Type 0 where
-  pub first : a ≡ (octets_of p.address).first
-  pub second : b ≡ (octets_of p.address).second
-  pub third : c ≡ (octets_of p.address).third
-  pub fourth : d ≡ (octets_of p.address).fourth
-  pub length : n ≡ p.length
-
-pub numbers_of : (p : PrefixParts) (bits a b c d n : ℕ) → bits ≡ p.address.bits → octets_of (record { family = V4; bits = bits }) ≡ record { first = a; second = b; third = c; fourth = d } → n ≡ p.length → AreNumbers p a b c d n
-numbers_of p bits a b c d n e o l =
-    let q : octets_of p.address ≡ record { first = a; second = b; third = c; fourth = d } = ap (λ (x : ℕ). octets_of (record { family = V4; bits = x })) (sym e) ∙ o in
-    record {
-      first = sym (ap (λ (x : Octets). x.first) q);
-      second = sym (ap (λ (x : Octets). x.second) q);
-      third = sym (ap (λ (x : Octets). x.third) q);
-      fourth = sym (ap (λ (x : Octets). x.fourth) q);
-      length = l;
-    }
-
--- a prefix's text, put to the end of a text part after part
-pub prefix_text_by_parts : (p : PrefixParts) (a b c d n : ℕ) → AreNumbers p a b c d n → (old one two three four five : List ℕ) → one ≡ old ++ (decimal a ++ (46 ∷ [])) → two ≡ one ++ (decimal b ++ (46 ∷ [])) → three ≡ two ++ (decimal c ++ (46 ∷ [])) → four ≡ three ++ (decimal d ++ (47 ∷ [])) → five ≡ four ++ decimal n → five ≡ old ++ prefix_text p
-unfolding prefix_text
-prefix_text_by_parts p a b c d n h old one two three four five e1 e2 e3 e4 e5 =
-    rw (e5, e4, e3, e2, e1, h.first, h.second, h.third, h.fourth, h.length) (regroup old (decimal (octets_of p.address).first) (decimal (octets_of p.address).second) (decimal (octets_of p.address).third) (decimal (octets_of p.address).fourth) (decimal p.length))
 
 -- a test that holds for no digit, no dot and no slash
 pub record Avoids (t : ℕ → Bool) : Type 0 where
@@ -116,7 +89,8 @@ joined_avoids t b n rest h mark small more =
     list_any-append t (decimal n) (b ∷ rest)
     ∙ or_from (list_any t (decimal n)) (t b || list_any t rest) (decimal_avoids t h.digit n small) (or_from (t b) (list_any t rest) mark more)
 
-dotted_avoids : (t : ℕ → Bool) (o : Octets) → Avoids t → AreOctets o → list_any t (dotted o) ≡ false
+-- it holds for no byte of four numbers joined by dots
+pub dotted_avoids : (t : ℕ → Bool) (o : Octets) → Avoids t → AreOctets o → list_any t (dotted o) ≡ false
 dotted_avoids t o h a =
     joined_avoids t 46 o.first (decimal o.second ++ (46 ∷ decimal o.third ++ (46 ∷ decimal o.fourth))) h h.dot (omega (arith, a.first))
     (joined_avoids t 46 o.second (decimal o.third ++ (46 ∷ decimal o.fourth)) h h.dot (omega (arith, a.second))
@@ -132,7 +106,8 @@ prefix_text_avoids t p h plain =
     (dotted_avoids t (octets_of p.address) h (octets_within p.address s.0))
     (or_from (t 47) (list_any t (decimal p.length)) h.slash (decimal_avoids t h.digit p.length (omega (arith, s.1))))
 
-append_starts : (front rest : List ℕ) → StartsWithDigit front → StartsWithDigit (front ++ rest)
+-- what starts with a digit still does with more behind it
+pub append_starts : (front rest : List ℕ) → StartsWithDigit front → StartsWithDigit (front ++ rest)
 append_starts front rest h = record { first = h.first; behind = h.behind ++ rest; is = ap (λ (x : List ℕ). x ++ rest) h.is; digit = h.digit }
 
 -- an IPv4 prefix's text has a first byte, a digit

@@ -148,3 +148,7 @@ set_of_permuted xs ys h =
 pub set_after_ascending : (removed : List RectParts) (added old set : List Community) → set ≡ set_after removed added old → IsAscending set
 set_after_ascending removed added old set e =
     subst IsAscending (sym e) (set_of_ascending (filter (λ c. not (list_any (λ r. fits r c) removed)) old ++ added))
+
+-- what is the set of a list is in rising order and without repeats
+pub is_ascending_set : (list set : List Community) → set ≡ set_of list → IsAscending set
+is_ascending_set list set e = subst IsAscending (sym e) (set_of_ascending list)

@@ -5,8 +5,9 @@ use Rattle.std.specs.List.{list_any}
 use Rattle.std.proofs.lemmas.Bool.{eq-eqb, eqb-true, or_from, or_parts}
 use Rattle.std.proofs.lemmas.List.Folds.{list_any-append}
 use Rattle.route_types.specs.Address.{PrefixParts, prefix_of}
-use Rattle.route_types.specs.Words.{Octets, dotted, address_of, IsAddress, IsPrefix, FindsExactly, number_in, parts_at, address_in, prefix_in, ◌>>=◌}
+use Rattle.route_types.specs.Words.{Octets, dotted, address_of, IsAddress, IsPrefix, IsCommunity, community_of, FindsExactly, number_in, parts_at, address_in, prefix_in, community_in, ◌>>=◌}
 use Rattle.route_types.specs.declared.address.Address.{Address}
+use Rattle.route_types.specs.declared.community.Community.{Community}
 use Rattle.route_types.proofs.Numbers.{bind_found, some_is, number_in_spelled, number_in_found, decimal_no_such_byte}
 
 same_byte : (b : ℕ) → (b == b) ≡ true
@@ -145,3 +146,38 @@ prefix_exactly word None e = prefix_in_none word e
 -- the function finds exactly the prefixes that are spelled
 pub prefix_in_exactly : (word : List ℕ) → FindsExactly (IsPrefix word) (prefix_in word)
 prefix_in_exactly word = prefix_exactly word (prefix_in word) refl
+
+pub community_in_spelled : (high low : ℕ) → high ≤ 65535 → low ≤ 65535 → community_in (decimal high ++ (58 ∷ decimal low)) ≡ Some (community_of high low)
+unfolding community_in
+community_in_spelled high low h l =
+    rw (parts_at_behind 58 (decimal high) (decimal low) (decimal_no_such_byte 58 high refl (omega arith)), number_in_spelled 65535 high h (omega arith), number_in_spelled 65535 low l (omega arith)) refl
+
+pub community_in_found : (word : List ℕ) (c : Community) → community_in word ≡ Some c → IsCommunity word c
+unfolding community_in
+community_in_found word c e =
+    let parts = bind_found (parts_at 58 word) _ c e in
+    let high = bind_found (number_in 65535 parts.0.0) _ c parts.2 in
+    let low = bind_found (number_in 65535 parts.0.1) _ c high.2 in
+    let h = number_in_found 65535 parts.0.0 high.0 (lit< tt) high.1 in
+    let l = number_in_found 65535 parts.0.1 low.0 (lit< tt) low.1 in
+    record {
+      high = high.0;
+      low = low.0;
+      high_within = h.within;
+      low_within = l.within;
+      spelled = parts_at_found 58 word parts.0 parts.1 ∙ ap2 (λ (x y : List ℕ). x ++ (58 ∷ y)) h.spelled l.spelled;
+      value = sym (some_is _ c low.2);
+    }
+
+pub community_in_none : (word : List ℕ) → community_in word ≡ None → (c : Community) → IsCommunity word c → ⊥
+community_in_none word e c h =
+    let k : community_in word ≡ Some (community_of h.high h.low) = ap (λ (w : List ℕ). community_in w) h.spelled ∙ community_in_spelled h.high h.low h.high_within h.low_within in
+    absurd cc
+
+community_exactly : (word : List ℕ) (o : Option Community) → community_in word ≡ o → FindsExactly (IsCommunity word) o
+community_exactly word (Some c) e = community_in_found word c e
+community_exactly word None e = community_in_none word e
+
+-- the function finds exactly the communities that are spelled
+pub community_in_exactly : (word : List ℕ) → FindsExactly (IsCommunity word) (community_in word)
+community_in_exactly word = community_exactly word (community_in word) refl

@@ -1,5 +1,5 @@
 -- Addresses and prefixes (RFC 4632, section 3.1), over the width of the family.
-use Rattle.std.specs.Prelude.{◌≡◌, ℕ, ◌-◌, ◌*◌, ◌/◌, ◌%◌, ◌^◌, ◌<◌, ◌≤◌}
+use Rattle.std.specs.Prelude.{◌≡◌, ℕ, ◌-◌, ◌*◌, ◌/◌, ◌%◌, ◌^◌, ◌<◌, ◌≤◌, Bool, true, false, ◌&&◌, nat_le, ◌==◌}
 use Rattle.route_types.specs.declared.address.Family.{Family}
 use Rattle.route_types.specs.declared.address.Family.TheVariants.{V4, V6}
 use Rattle.route_types.specs.declared.address.Address.{Address}
@@ -27,3 +27,15 @@ masked_address a n = let block = 2 ^ (width a.family - n) in record { family = a
 -- the prefix of an address and a length
 abbrev pub prefix_of : Address → ℕ → PrefixParts
 prefix_of a n = record { address = masked_address a n; length = n }
+
+-- the two families are one
+abbrev pub same_family : Family → Family → Bool
+same_family V4 V4 = true
+same_family V6 V6 = true
+same_family V4 V6 = false
+same_family V6 V4 = false
+
+-- q is p or lies within it: of its family, no shorter, and the first bits agree
+abbrev pub contains : PrefixParts → PrefixParts → Bool
+contains p q = let block = 2 ^ (width p.address.family - p.length) in
+    same_family p.address.family q.address.family && nat_le p.length q.length && (p.address.bits / block == q.address.bits / block)

@@ -2,11 +2,10 @@ pub mod Address
 pub mod Community
 pub mod Route
 pub mod Change
-pub mod Range
 pub mod Text
 pub mod Words
-pub mod Names
-pub mod Bounds
 pub mod Walk
 pub mod Print
-pub mod ByteWords
+pub mod RouteText
+pub mod RouteLines
+pub mod RouteRead

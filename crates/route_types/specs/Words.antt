@@ -1,9 +1,10 @@
--- The forms of words: what a number, an address and a prefix are as texts, and the functions that
--- find them. The clauses `found` and `exact` of the readers join the two, both ways.
+-- The forms of words: what a number, an address, a prefix and a community are as texts, and the
+-- functions that find them. The clauses `found` and `exact` of the readers join the two, both ways.
 use Rattle.std.specs.Prelude.{◌≡◌, ℕ, ◌+◌, ◌-◌, ◌*◌, ◌≤◌, Bool, true, false, ◌&&◌, nat_le, ◌==◌, List, [], ◌∷◌, ◌++◌, Option, Some, None, decimal}
 use Rattle.route_types.specs.Address.{PrefixParts, prefix_of}
 use Rattle.route_types.specs.declared.address.Address.{Address}
 use Rattle.route_types.specs.declared.address.Family.TheVariants.{V4}
+use Rattle.route_types.specs.declared.community.Community.{Community}
 
 -- exactly the value that P describes is found, and nothing is found exactly where none is described
 abbrev pub FindsExactly : {A : Type 0} → (A → Type 0) → Option A → Type 0
@@ -49,6 +50,19 @@ pub record IsPrefix (word : List ℕ) (p : PrefixParts) : Type 0 where
   pub spells_address : IsAddress front address
   pub within : length ≤ 32
   pub value : p ≡ prefix_of address length
+
+-- the community of an upper and a lower half
+abbrev pub community_of : ℕ → ℕ → Community
+community_of high low = record { 0 = high * 65536 + low }
+
+-- a community is two numbers up to 65535 joined by a colon
+pub record IsCommunity (word : List ℕ) (c : Community) : Type 0 where
+  pub high : ℕ
+  pub low : ℕ
+  pub high_within : high ≤ 65535
+  pub low_within : low ≤ 65535
+  pub spelled : word ≡ decimal high ++ (58 ∷ decimal low)
+  pub value : c ≡ community_of high low
 
 -- a decimal digit
 abbrev pub is_digit : ℕ → Bool
@@ -109,3 +123,11 @@ prefix_in word = do
   address ← address_in parts.0
   length ← number_in 32 parts.1
   Some (prefix_of address length)
+
+-- the community that a word spells
+unfoldable pub community_in : List ℕ → Option Community
+community_in word = do
+  parts ← parts_at 58 word
+  high ← number_in 65535 parts.0
+  low ← number_in 65535 parts.1
+  Some (community_of high low)

@@ -1,6 +1,6 @@
 ghost use Rattle.std.specs.Prelude.{◌≡◌, ◌-◌, ◌*◌, ◌/◌, ◌^◌, ◌<◌, ◌≤◌};
 ghost use Rattle.route_types.specs.declared.address.Family.TheVariants.{V4};
-ghost use Rattle.route_types.specs.Address.{width, prefix_of, IsMasked};
+ghost use Rattle.route_types.specs.Address.{width, prefix_of, IsMasked, same_family, contains};
 
 use std::marker::Model;
 
@@ -52,9 +52,15 @@ impl Model for Prefix {
     ghost inverse = { λ p. record { address = p.address; length = p.length } };
 }
 
+fn same_family(a: Family, b: Family) -> bool
+    ensures { result ≡ same_family a b }
+{
+    a == b
+}
+
 // The bits in front of the last `count` ones, as a number.
 #[tactic(auto, using(crate::proofs::Bits::front_by_shift))]
-pub(crate) fn front_bits(bits: u128, count: u8) -> u128
+fn front_bits(bits: u128, count: u8) -> u128
     ensures { result ≡ bits / 2 ^ count }
 {
     bits.checked_shr(u32::from(count)).unwrap_or(0)
@@ -110,11 +116,14 @@ impl Prefix {
         self.address.family.width() - self.length
     }
 
-    // The 32 bits of an IPv4 prefix's address.
-    pub(crate) fn v4_bits(&self) -> u32
-        requires { self.now.address.family ≡ V4 }
-        ensures { result ≡ self.now.address.bits }
+    /// Whether `inner` is this prefix or lies within it: it is of the same family, no shorter, and
+    /// agrees with it in the first `length` bits.
+    pub fn contains(&self, inner: &Prefix) -> bool
+        ensures { result ≡ contains self.now inner.now }
     {
-        self.address.bits as u32
+        let host = self.host_bits();
+        same_family(self.address.family, inner.address.family)
+            && self.length <= inner.length
+            && front_bits(self.address.bits, host) == front_bits(inner.address.bits, host)
     }
 }

@@ -26,15 +26,24 @@ pub enum Change {
 pub fn apply_change(alloc: Global, route: &Route, change: &Change) -> Result<Route, Memory>
     ensures { IfOk result (λ r. r ≡ changed change.now route.now) }
 {
-    let copy = route.copy(alloc)?;
-    match change {
-        Change::NextHop(next_hop) => Ok(copy.with_next_hop(*next_hop)),
-        Change::Prepend(number) => copy.with_number_in_front(*number),
-        Change::Origin(origin) => Ok(copy.with_origin(*origin)),
-        Change::LocalPreference(number) => Ok(copy.with_local_preference(*number)),
-        Change::Med(number) => Ok(copy.with_med(*number)),
-        Change::Weight(number) => Ok(copy.with_weight(*number)),
-        Change::Communities(change) => with_change(alloc, copy, change),
+    route.copy(alloc)?.changed(alloc, change)
+}
+
+impl Route {
+    /// The route with the change made, without a copy of it; `apply_change` keeps the route. The one
+    /// error is want of memory.
+    pub fn changed(self, alloc: Global, change: &Change) -> Result<Route, Memory>
+        ensures { IfOk result (λ r. r ≡ changed change.now self) }
+    {
+        match change {
+            Change::NextHop(next_hop) => Ok(self.with_next_hop(*next_hop)),
+            Change::Prepend(number) => self.with_number_in_front(*number),
+            Change::Origin(origin) => Ok(self.with_origin(*origin)),
+            Change::LocalPreference(number) => Ok(self.with_local_preference(*number)),
+            Change::Med(number) => Ok(self.with_med(*number)),
+            Change::Weight(number) => Ok(self.with_weight(*number)),
+            Change::Communities(change) => with_change(alloc, self, change),
+        }
     }
 }
 

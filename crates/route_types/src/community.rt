@@ -128,7 +128,8 @@ fn kept(alloc: Global, removed: &[Rect], old: &[Community]) -> Result<Vec<Commun
     Ok(kept)
 }
 
-fn set_of(list: Vec<Community>) -> Vec<Community>
+// The communities of a list in rising order and without repeats.
+pub(crate) fn set_of(list: Vec<Community>) -> Vec<Community>
     ensures { result.items ≡ set_of list.items }
 {
     let mut set = list;

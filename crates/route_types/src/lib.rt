@@ -1,32 +1,39 @@
 //! The values that every layer speaks of: addresses, prefixes, communities, routes, changes and
-//! outcomes, and for now also statements, the forms of words and prefix ranges.
-//! It stands on std and the kit's itoa. Its definitions are in `specs/`, a file a notion, and the
-//! laws that crates above cite in `proofs/`: `Numbers`, `Spelled`, `Printed`, `Lines` and `Sets`.
+//! outcomes; the words that spell numbers, addresses, prefixes and communities; and the text of a
+//! route, read and printed. It stands on std and the kit's itoa. Its definitions are in `specs/`, a
+//! file a notion: the text of a route is `RouteText`, and `RouteRead` with `RouteLines` the function
+//! that reads it. The laws of route texts are the clauses of `route_texts`; those that crates above
+//! cite in `proofs/` are `Numbers`, `Spelled`, `Printed`, `Lines` and `Sets`.
 #![tactic(auto)]
 
 mod address;
 mod change;
 mod community;
 mod fault;
+mod laws;
+mod line_words;
 mod memory;
 mod print;
-mod range;
 mod route;
+mod route_print;
+mod route_text;
 mod row;
-mod statement;
 mod words;
 
 pub use address::{Address, Family, Prefix};
 pub use change::{Change, apply_change};
 pub use community::{CommChange, Community, Rect};
-pub use fault::{Cause, CheckFault, RouteFault};
+pub use fault::RouteFault;
+pub use laws::route_texts;
 pub use memory::Memory;
-pub use print::{push_number, push_prefix};
-pub use range::PrefixRange;
-pub use route::{NextHop, Origin, Outcome, Route};
+pub use print::{push_address, push_number, push_prefix};
+pub use route::{NextHop, Origin, Outcome, Route, new_route};
+pub use route_print::print_route;
+pub use route_text::read_route;
 pub use row::Row;
-pub use statement::{Ender, Span, Statement, Word};
-pub use words::{read_address, read_number, read_prefix};
+pub use words::{read_address, read_community, read_number, read_prefix};
 
+#[cfg(test)]
+mod route_tests;
 #[cfg(test)]
 mod tests;

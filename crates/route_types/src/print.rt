@@ -1,8 +1,7 @@
 ghost use Rattle.std.specs.Prelude.{◌≡◌, ◌<◌, ◌^◌, ◌++◌, ◌∷◌, [], IfOk, decimal};
-ghost use Rattle.route_types.specs.Print.{octets_of, prefix_text};
-ghost use Rattle.route_types.specs.declared.address.Family.TheVariants.{V4};
+ghost use Rattle.route_types.specs.Print.{octets_of, address_text, prefix_text};
 
-use crate::address::Prefix;
+use crate::address::{Address, Prefix};
 use crate::memory::Memory;
 use itoa::Buffer;
 
@@ -24,28 +23,40 @@ fn push_number_and(out: &mut Vec<u8>, number: u64, mark: u8) -> Result<(), Memor
     Ok(())
 }
 
-// The four bytes of 32 bits, the most significant one first.
-fn octets(bits: u32) -> (u8, u8, u8, u8)
-    ensures { octets_of (record { family = V4; bits = bits }) ≡ record { first = result.0; second = result.1; third = result.2; fourth = result.3 } }
+// The last four bytes of an address, the most significant one first.
+fn octets(address: &Address) -> (u8, u8, u8, u8)
+    ensures { octets_of address.now ≡ record { first = result.0; second = result.1; third = result.2; fourth = result.3 } }
 {
-    let first = (bits / 256 / 256 / 256) as u8;
+    let bits = address.bits;
+    let first = (bits / 256 / 256 / 256 % 256) as u8;
     let second = (bits / 256 / 256 % 256) as u8;
     let third = (bits / 256 % 256) as u8;
     (first, second, third, (bits % 256) as u8)
 }
 
-/// Puts the text of an IPv4 prefix at the end of `out`: its address as four numbers joined by
-/// dots, a slash and its length. `read_prefix` reads that text as the prefix. Its one error is
-/// want of memory.
-pub fn push_prefix(out: &mut Vec<u8>, prefix: &Prefix) -> Result<(), Memory>
-    requires { prefix.now.address.family ≡ V4 }
-    ensures { IfOk result (λ _. out.new.items ≡ out.old.items ++ prefix_text prefix.now) }
+/// Puts the text of an IPv4 address at the end of `out`: four numbers joined by dots. Of an IPv6
+/// address it is that of the last 32 bits. Its one error is want of memory.
+pub fn push_address(out: &mut Vec<u8>, address: &Address) -> Result<(), Memory>
+    ensures { IfOk result (λ _. out.new.items ≡ out.old.items ++ address_text address.now) }
 {
-    let (first, second, third, fourth) = octets(prefix.v4_bits());
+    let (first, second, third, fourth) = octets(address);
     push_number_and(out, u64::from(first), b'.')?;
     push_number_and(out, u64::from(second), b'.')?;
     push_number_and(out, u64::from(third), b'.')?;
-    push_number_and(out, u64::from(fourth), b'/')?;
+    push_number(out, u64::from(fourth))?;
+    Ok(())
+}
+
+/// Puts the text of an IPv4 prefix at the end of `out`: its address as four numbers joined by
+/// dots, a slash and its length. `read_prefix` reads that text as the prefix. Of an IPv6 prefix it
+/// is that of the last 32 bits. Its one error is want of memory.
+#[tactic(auto, unfolding(crate::specs::Print::prefix_text))]
+pub fn push_prefix(out: &mut Vec<u8>, prefix: &Prefix) -> Result<(), Memory>
+    ensures { IfOk result (λ _. out.new.items ≡ out.old.items ++ prefix_text prefix.now) }
+{
+    let address = prefix.address();
+    push_address(out, &address)?;
+    out.push(b'/')?;
     push_number(out, u64::from(prefix.length()))?;
     Ok(())
 }

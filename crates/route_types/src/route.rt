@@ -1,8 +1,8 @@
 ghost use Rattle.std.specs.Prelude.{◌≡◌, ◌∷◌, IfOk};
-ghost use Rattle.route_types.specs.Community.{IsAscending};
+ghost use Rattle.route_types.specs.Community.{IsAscending, set_of};
 
 use crate::address::{Address, Prefix};
-use crate::community::Community;
+use crate::community::{Community, set_of};
 use crate::memory::Memory;
 use crate::row::Row;
 use std::alloc::Global;
@@ -100,7 +100,8 @@ impl Route {
 
     /// The communities, in rising order and without repeats.
     pub fn communities(&self) -> &[Community]
-        ensures { result.now ≡ self.now.communities }
+        ensures value { result.now ≡ self.now.communities }
+        ensures ascending { IsAscending self.now.communities }
     {
         self.communities.as_slice()
     }
@@ -172,6 +173,35 @@ impl Route {
             ..self
         }
     }
+}
+
+/// The route of these attributes. `path` lists AS numbers, the nearest first; the communities may
+/// come in any order and repeat. The one error is want of memory.
+#[tactic(auto, using(crate::proofs::Sets::is_ascending_set))]
+pub fn new_route(
+    alloc: Global,
+    prefix: Prefix,
+    next_hop: NextHop,
+    path: &[u32],
+    origin: Origin,
+    local_preference: u32,
+    med: u32,
+    weight: u16,
+    communities: &[Community],
+) -> Result<Route, Memory>
+    ensures { IfOk result (λ r. r ≡ record { prefix = prefix; next_hop = next_hop; path = path.now; origin = origin; local_preference = local_preference; med = med; weight = weight; communities = set_of communities.now }) }
+{
+    let communities = set_of(Vec::from_slice(alloc, communities)?);
+    Ok(Route {
+        prefix,
+        next_hop,
+        path: Row::from_slice(alloc, path)?,
+        origin,
+        local_preference,
+        med,
+        weight,
+        communities: Row::from_vec(communities),
+    })
 }
 
 /// What a policy answers on a route.

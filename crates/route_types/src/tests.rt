@@ -76,28 +76,45 @@ fn v4(bits: u32) -> Address
 }
 
 #[test]
-fn ranges(rt: HostRuntime) {
-    let range = PrefixRange::new(Prefix::new(v4(0x0a00_0000), 8), 9, 24);
-    let rows: [(&[u8], bool); 6] = [
-        (b"10.0.0.0/8", false),
-        (b"10.0.0.0/9", true),
+fn communities_of_words(rt: HostRuntime) {
+    let rows: [(&[u8], Option<u32>); 9] = [
+        (b"0:0", Some(0)),
+        (b"65001:1", Some(65001 * 65536 + 1)),
+        (b"65535:65535", Some(u32::MAX)),
+        (b"65536:0", None),
+        (b"0:65536", None),
+        (b"65001:01", None),
+        (b"65001:", None),
+        (b"65001", None),
+        (b"1:2:3", None),
+    ];
+    for (word, want) in rows {
+        assert_eq!(rt; read_community(word).map(|c| c.0), want, "{word:?}");
+    }
+}
+
+#[test]
+fn prefixes_within(rt: HostRuntime) {
+    let outer = Prefix::new(v4(0x0a00_0000), 8);
+    let rows: [(&[u8], bool); 5] = [
+        (b"10.0.0.0/8", true),
         (b"10.255.0.0/24", true),
-        (b"10.0.0.0/25", false),
+        (b"10.0.0.0/7", false),
         (b"11.0.0.0/9", false),
         (b"0.0.0.0/0", false),
     ];
     for (word, want) in rows {
-        let held = read_prefix(word).map(|p| range.holds(&p));
+        let held = read_prefix(word).map(|p| outer.contains(&p));
         assert_eq!(rt; held, Some(want), "{word:?}");
     }
     let v6 = Address {
         family: Family::V6,
         bits: 5,
     };
-    let all = PrefixRange::new(Prefix::new(v6, 0), 0, 128);
-    assert!(rt; all.holds(&Prefix::new(v6, 128)));
-    assert!(rt; !all.holds(&Prefix::new(v4(5), 32)));
-    assert_eq!(rt; Prefix::new(v6, 0).address().bits, 0);
+    let all = Prefix::new(v6, 0);
+    assert!(rt; all.contains(&Prefix::new(v6, 128)));
+    assert!(rt; !all.contains(&Prefix::new(v4(5), 32)));
+    assert_eq!(rt; all.address().bits, 0);
 }
 
 #[test]

@@ -1,8 +1,9 @@
 ghost use Rattle.std.specs.Prelude.{◌≡◌, ◌≤◌, ◌==◌, IfSome, Some, None, option_map, position};
-ghost use Rattle.route_types.specs.Words.{FindsExactly, IsNumber, number_in, IsAddress, address_in, address_of, parts_at, IsPrefix, prefix_in};
+ghost use Rattle.route_types.specs.Words.{FindsExactly, IsNumber, number_in, IsAddress, address_in, address_of, parts_at, IsPrefix, prefix_in, IsCommunity, community_of, community_in};
 ghost use Rattle.route_types.specs.Walk.{with_digit, number_after, starts_plainly};
 
 use crate::address::{Address, Family, Prefix};
+use crate::community::Community;
 
 fn with_digit(most: u64, value: u64, byte: u8) -> Option<u64>
     ensures { result ≡ with_digit most value byte }
@@ -68,8 +69,9 @@ fn place_of(word: &[u8], byte: u8) -> Option<usize>
     word.iter().position(|c| *c == byte)
 }
 
+// What stands before the first such byte, and what stands behind it.
 #[tactic(auto, using(crate::proofs::Parts::parts_at_position))]
-fn parts(word: &[u8], byte: u8) -> Option<(&[u8], &[u8])>
+pub(crate) fn parts(word: &[u8], byte: u8) -> Option<(&[u8], &[u8])>
     ensures { option_map (λ p. (p.0.now, p.1.now)) result ≡ parts_at byte word.now }
 {
     let place = place_of(word, byte)?;
@@ -146,4 +148,38 @@ pub fn read_prefix(word: &[u8]) -> Option<Prefix>
     ensures exact { result ≡ prefix_in word.now }
 {
     prefix_in(word)
+}
+
+#[tactic(auto, using(crate::proofs::Numbers::number_in_within))]
+fn half(word: &[u8]) -> Option<u16>
+    ensures { result ≡ number_in 65535 word.now }
+{
+    let number = read_number(word, 65535)?;
+    Some(number as u16)
+}
+
+fn community(high: u16, low: u16) -> Community
+    ensures { result ≡ community_of high low }
+{
+    Community(u32::from(high) * 65536 + u32::from(low))
+}
+
+#[tactic(auto, unfolding(crate::specs::Words::community_in))]
+fn community_in(word: &[u8]) -> Option<Community>
+    ensures { result ≡ community_in word.now }
+{
+    let (high, low) = parts(word, b':')?;
+    let high = half(high)?;
+    let low = half(low)?;
+    Some(community(high, low))
+}
+
+/// The community that a word spells: two numbers up to 65535 joined by a colon, the upper half
+/// first. `None` where the word spells no community. It takes no memory.
+#[tactic(auto, using(crate::proofs::Spelled::community_in_exactly))]
+pub fn read_community(word: &[u8]) -> Option<Community>
+    ensures found { FindsExactly (IsCommunity word.now) result }
+    ensures exact { result ≡ community_in word.now }
+{
+    community_in(word)
 }

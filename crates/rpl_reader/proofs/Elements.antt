@@ -4,15 +4,15 @@ use Rattle.std.specs.Prelude.{codes, bytes_eq, decimal, option_map, ◌==◌}
 use Rattle.std.specs.List.{AllByRecursion}
 use Rattle.std.proofs.lemmas.Bool.{eqb-true, le-leb}
 use Rattle.route_types.specs.Address.{PrefixParts}
-use Rattle.route_types.specs.Bounds.{bounds_in}
-use Rattle.route_types.specs.Names.{first_some, or_else}
+use Rattle.policy_text.specs.Bounds.{bounds_in}
+use Rattle.policy_text.specs.Names.{first_some, or_else}
 use Rattle.route_types.specs.Print.{prefix_text}
-use Rattle.route_types.specs.Range.{RangeParts}
+use Rattle.prefix_sets.specs.Range.{RangeParts}
 use Rattle.route_types.specs.Words.{◌>>=◌, prefix_in}
-use Rattle.route_types.specs.declared.statement.Ender.TheVariants.{Comma, Plain}
-use Rattle.route_types.specs.declared.statement.Span.{Span}
-use Rattle.route_types.specs.declared.statement.Word.{Word}
-use Rattle.route_types.specs.declared.statement.Statement.{Statement}
+use Rattle.policy_text.specs.declared.statement.Ender.TheVariants.{Comma, Plain}
+use Rattle.policy_text.specs.declared.statement.Span.{Span}
+use Rattle.policy_text.specs.declared.statement.Word.{Word}
+use Rattle.policy_text.specs.declared.statement.Statement.{Statement}
 use Rattle.route_types.proofs.Numbers.{number_in_spelled}
 use Rattle.route_types.proofs.Printed.{prefix_in_printed}
 use Rattle.rpl_reader.specs.declared.item.BlockKind.TheVariants.{PrefixSet as PrefixSetKind}

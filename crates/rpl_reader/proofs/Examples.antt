@@ -13,7 +13,7 @@ use Rattle.rpl_reader.specs.Words.{words_at}
 use Rattle.rpl_reader.specs.Cut.{rpl_cut, cut_from}
 use Rattle.rpl_reader.specs.Forms.{element_in, prefix_set_in, policy_header_in, if_in, set_in, single_word_in}
 use Rattle.rpl_reader.specs.Tree.{rpl_tree, items_of, is_whole, header_form, statement_form, forms}
-use Rattle.route_types.specs.Range.{RangeParts}
+use Rattle.prefix_sets.specs.Range.{RangeParts}
 use Rattle.route_types.specs.Print.{prefix_text}
 use Rattle.rpl_reader.specs.Layout.{Step, policy_text, steps_text, actions_text, preferences_text, sets_text, set_text, elements_text, element_text, policy_forms, steps_forms, actions_forms, sets_forms, set_forms}
 use Rattle.rpl_reader.specs.Meaning.{run, rpl_meaning}

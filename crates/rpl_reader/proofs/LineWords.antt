@@ -5,8 +5,8 @@ use Rattle.std.specs.List.{list_any}
 use Rattle.std.proofs.lemmas.Bool.{or_from, or_parts, and_left}
 use Rattle.std.proofs.lemmas.List.Folds.{list_any-append}
 use Rattle.route_types.specs.Text.{is_blank, starts_with_byte, Line, lines_at}
-use Rattle.route_types.specs.declared.statement.Span.{Span}
-use Rattle.route_types.specs.declared.statement.Word.{Word}
+use Rattle.policy_text.specs.declared.statement.Span.{Span}
+use Rattle.policy_text.specs.declared.statement.Word.{Word}
 use Rattle.route_types.proofs.Lines.{IsPlainLine, lines_at_plain}
 use Rattle.rpl_reader.specs.Words.{is_single, word_of_byte, onto_word, goes_on, words_at}
 use Rattle.rpl_reader.specs.Cut.{LineWord, marked, line_words, line_ends}

@@ -3,8 +3,8 @@ use Rattle.std.proofs.Common.{◌≡◌, refl, sym, ap, subst, ◌∙◌, ℕ, �
 use Rattle.std.specs.Prelude.{codes}
 use Rattle.std.specs.List.{AllByRecursion}
 use Rattle.route_types.specs.Print.{prefix_text}
-use Rattle.route_types.specs.Range.{RangeParts}
-use Rattle.route_types.specs.declared.statement.Span.{Span}
+use Rattle.prefix_sets.specs.Range.{RangeParts}
+use Rattle.policy_text.specs.declared.statement.Span.{Span}
 use Rattle.rpl_reader.specs.declared.item.BlockKind.{BlockKind}
 use Rattle.rpl_reader.specs.declared.item.BlockKind.TheVariants.{PrefixSet as PrefixSetKind}
 use Rattle.rpl_reader.specs.declared.item.RplForm.{RplForm}

@@ -7,7 +7,7 @@ use Rattle.std.proofs.lemmas.List.{length-append}
 use Rattle.std.proofs.lemmas.List.Folds.{list_any-append, list_all-append}
 use Rattle.std.proofs.lemmas.Fmt.{decimal_nonempty}
 use Rattle.route_types.specs.Address.{PrefixParts, IsMasked, width}
-use Rattle.route_types.specs.Names.{is_mark}
+use Rattle.policy_text.specs.Names.{is_mark}
 use Rattle.route_types.specs.Print.{prefix_text, octets_of}
 use Rattle.route_types.specs.Text.{starts_with_byte}
 use Rattle.route_types.specs.Words.{is_digit, dotted}

@@ -4,8 +4,8 @@ use Rattle.std.specs.Prelude.{bytes_eq, IfSome}
 use Rattle.std.specs.List.{list_any, list_all, AllByRecursion}
 use Rattle.std.proofs.lemmas.Bool.{and_parts, or_from, or_left, or_right}
 use Rattle.std.proofs.lemmas.List.Folds.{list_any-append}
-use Rattle.route_types.specs.Range.{RangeParts}
-use Rattle.route_types.specs.declared.fault.Cause.{Cause}
+use Rattle.prefix_sets.specs.Range.{RangeParts}
+use Rattle.policy_text.specs.declared.fault.Cause.{Cause}
 use Rattle.rpl_reader.specs.declared.item.RplForm.{RplForm}
 use Rattle.rpl_reader.specs.declared.item.RplForm.TheVariants.{PrefixSet, Element, RoutePolicy, If, EndIf, SetLocalPreference, Done, Drop, End, Other}
 use Rattle.rpl_reader.specs.declared.item.RplTest.{RplTest}

@@ -4,11 +4,11 @@
 use Rattle.std.specs.Prelude.{ℕ, Bool, true, false, ◌&&◌, ◌||◌, not, List, [], ◌∷◌, Option, Some, None, codes, bytes_eq, flat_map, map}
 use Rattle.std.specs.List.{list_any}
 use Rattle.route_types.specs.Text.{starts_with_byte, Line, lines_at}
-use Rattle.route_types.specs.declared.statement.Span.{Span}
-use Rattle.route_types.specs.declared.statement.Word.{Word}
-use Rattle.route_types.specs.declared.statement.Ender.{Ender}
-use Rattle.route_types.specs.declared.statement.Ender.TheVariants.{Line as EndsLine, Comma, Plain}
-use Rattle.route_types.specs.declared.statement.Statement.{Statement}
+use Rattle.policy_text.specs.declared.statement.Span.{Span}
+use Rattle.policy_text.specs.declared.statement.Word.{Word}
+use Rattle.policy_text.specs.declared.statement.Ender.{Ender}
+use Rattle.policy_text.specs.declared.statement.Ender.TheVariants.{Line as EndsLine, Comma, Plain}
+use Rattle.policy_text.specs.declared.statement.Statement.{Statement}
 use Rattle.rpl_reader.specs.declared.item.BlockKind.{BlockKind}
 use Rattle.rpl_reader.specs.declared.item.BlockKind.TheVariants.{PrefixSet, CommunitySet, PathSet, Policy}
 use Rattle.rpl_reader.specs.Words.{words_at}

@@ -2,7 +2,7 @@
 -- `policy_text` is the text, and `policy_forms` what the text says, form by form.
 use Rattle.std.specs.Prelude.{ℕ, ◌+◌, Bool, true, false, ◌==◌, List, [], ◌∷◌, ◌++◌, Option, Some, None, codes, decimal, map}
 use Rattle.route_types.specs.Print.{prefix_text}
-use Rattle.route_types.specs.Range.{RangeParts}
+use Rattle.prefix_sets.specs.Range.{RangeParts}
 use Rattle.rpl_reader.specs.declared.item.RplForm.{RplForm}
 use Rattle.rpl_reader.specs.declared.item.RplForm.TheVariants.{PrefixSet, Element, RoutePolicy, If, EndIf, SetLocalPreference, Done, Drop, End}
 use Rattle.rpl_reader.specs.declared.item.RplTest.TheVariants.{Destination}

@@ -3,7 +3,7 @@
 -- takes the ticket, `done` accepts, `drop` rejects, and at the end the ticket decides.
 use Rattle.std.specs.Prelude.{ℕ, zero, suc, Bool, true, false, ◌-◌, List, [], ◌∷◌, bytes_eq}
 use Rattle.std.specs.List.{list_any}
-use Rattle.route_types.specs.Range.{RangeParts, in_range}
+use Rattle.prefix_sets.specs.Range.{RangeParts, in_range}
 use Rattle.route_types.specs.Route.{RouteParts}
 use Rattle.route_types.specs.Change.{changed}
 use Rattle.route_types.specs.declared.change.Change.TheVariants.{LocalPreference}

@@ -1,12 +1,12 @@
 -- What 'in profile' asks of an RPL policy: which items it reaches, and the causes, each a test of its
 -- own on the whole tree.
-pub use Rattle.route_types.specs.Names.{is_named}
+pub use Rattle.policy_text.specs.Names.{is_named}
 use Rattle.std.specs.Prelude.{◌≡◌, ℕ, ◌+◌, ◌-◌, Bool, true, false, ◌&&◌, ◌||◌, not, nat_le, List, [], ◌∷◌, ◌++◌, Option, Some, None, bytes_eq}
 use Rattle.std.specs.List.{list_any}
 use Rattle.route_types.specs.Words.{when}
-use Rattle.route_types.specs.Names.{first_some}
-use Rattle.route_types.specs.declared.fault.Cause.{Cause}
-use Rattle.route_types.specs.declared.fault.Cause.TheVariants.{UnknownForm, DefinedTwice, Undefined, TooDeep}
+use Rattle.policy_text.specs.Names.{first_some}
+use Rattle.policy_text.specs.declared.fault.Cause.{Cause}
+use Rattle.policy_text.specs.declared.fault.Cause.TheVariants.{UnknownForm, DefinedTwice, Undefined, TooDeep}
 use Rattle.rpl_reader.specs.declared.item.BlockKind.{BlockKind}
 use Rattle.rpl_reader.specs.declared.item.BlockKind.TheVariants.{PrefixSet as PrefixSetKind, CommunitySet, PathSet, Policy}
 use Rattle.rpl_reader.specs.declared.item.RplForm.{RplForm}

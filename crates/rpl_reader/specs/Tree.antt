@@ -2,9 +2,9 @@
 -- a block does not end, or where `elseif`, `else`, `endif` or `end-policy` stands out of its place.
 use Rattle.std.specs.Prelude.{ℕ, Bool, true, false, ◌&&◌, List, [], ◌∷◌, Option, Some, None, codes, option_map, slice_get, map}
 use Rattle.route_types.specs.Words.{◌>>=◌, when}
-use Rattle.route_types.specs.Names.{first_some, or_else}
-use Rattle.route_types.specs.declared.statement.Word.{Word}
-use Rattle.route_types.specs.declared.statement.Statement.{Statement}
+use Rattle.policy_text.specs.Names.{first_some, or_else}
+use Rattle.policy_text.specs.declared.statement.Word.{Word}
+use Rattle.policy_text.specs.declared.statement.Statement.{Statement}
 use Rattle.rpl_reader.specs.declared.item.BlockKind.{BlockKind}
 use Rattle.rpl_reader.specs.declared.item.BlockKind.TheVariants.{PrefixSet, CommunitySet, PathSet, Policy}
 use Rattle.rpl_reader.specs.declared.item.RplForm.{RplForm}

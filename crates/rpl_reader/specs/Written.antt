@@ -2,7 +2,7 @@
 use Rattle.std.specs.Prelude.{◌≡◌, ℕ, ◌<◌, ◌≤◌, ◌^◌, Bool, true, false, ◌&&◌, ◌||◌, nat_le, ◌==◌, List, [], ◌∷◌, length, Option, Some, None, IfSome, slice_get, unwrap_or, map}
 use Rattle.std.specs.List.{list_any, list_all, AllByRecursion}
 use Rattle.route_types.specs.Address.{IsMasked}
-use Rattle.route_types.specs.Range.{RangeParts, in_range}
+use Rattle.prefix_sets.specs.Range.{RangeParts, in_range}
 use Rattle.route_types.specs.Route.{RouteParts}
 use Rattle.route_types.specs.Change.{changed_by}
 use Rattle.route_types.specs.declared.address.Family.TheVariants.{V4}

@@ -1,4 +1,6 @@
-use route_types::{PrefixRange, Row, Span};
+use policy_text::Span;
+use prefix_sets::PrefixRange;
+use route_types::Row;
 
 /// A statement of a set or of a policy, and where it stands.
 #[derive(Debug, Drop)]

@@ -1,7 +1,7 @@
 //! The laws of a written policy, each the contract of a function that does nothing.
 
 ghost use Rattle.std.specs.Prelude.{◌≡◌, ℕ, List, Option, Some};
-ghost use Rattle.route_types.specs.Range.{RangeParts};
+ghost use Rattle.prefix_sets.specs.Range.{RangeParts};
 ghost use Rattle.route_types.specs.Route.{RouteParts};
 ghost use Rattle.rpl_reader.specs.declared.item.RplItem.{RplItem};
 ghost use Rattle.rpl_reader.specs.Layout.{Step, policy_text, policy_forms};

@@ -20,7 +20,7 @@ fn refused_words(rt: HostRuntime) {
         let words = ten(policy, name, "in.cfg");
         assert!(rt; is_usage(rt.alloc(), words.as_slice()), "{policy} {name}");
     }
-    let others: [&[&str]; 4] = [
+    let others: [&[&str]; 3] = [
         &[],
         &[
             "translate",
@@ -44,18 +44,6 @@ fn refused_words(rt: HostRuntime) {
             "--as",
             "M",
             "in.cfg",
-            "in.cfg",
-        ],
-        &[
-            "translate",
-            "--from",
-            "ios",
-            "--to",
-            "rpl",
-            "--policy",
-            "IN",
-            "--as",
-            "M",
             "in.cfg",
         ],
     ];
@@ -137,4 +125,74 @@ route-map IN permit 10
         );
     }
     assert_eq!(rt; Status::Outside.number(), 4);
+}
+
+#[test]
+fn forms_not_taken(rt: HostRuntime) {
+    let rows = [
+        (
+            "an entry of a reached list that denies",
+            "ip prefix-list PL seq 5 permit 10.0.0.0/8
+ip prefix-list PL seq 10 deny 11.0.0.0/8
+route-map IN permit 10
+ match ip address prefix-list PL
+",
+            "in.cfg:2:1: outside: unknown-form\n",
+        ),
+        (
+            "an entry of a reached list without a number",
+            "route-map IN permit 10
+ match ip address prefix-list PL
+ip prefix-list PL seq 5 permit 10.0.0.0/8
+ip prefix-list PL permit 11.0.0.0/8
+",
+            "in.cfg:4:1: outside: unknown-form\n",
+        ),
+        (
+            "two lists in one line",
+            "ip prefix-list A seq 5 permit 10.0.0.0/8
+ip prefix-list B seq 5 permit 11.0.0.0/8
+route-map IN permit 10
+ match ip address prefix-list A B
+",
+            "in.cfg:4:2: outside: unknown-form\n",
+        ),
+        (
+            "continue",
+            "route-map IN permit 10\n  continue 20\nroute-map IN permit 20\n",
+            "in.cfg:2:3: outside: unknown-form\n",
+        ),
+        (
+            "communities, the line before its list",
+            "route-map IN permit 10
+ match community C
+ip community-list standard C permit 65000:1
+",
+            "in.cfg:2:2: outside: unknown-form\n",
+        ),
+        (
+            "communities, the list before its line",
+            "ip community-list standard C permit 65000:1
+route-map IN permit 10
+ match community C
+",
+            "in.cfg:1:1: outside: unknown-form\n",
+        ),
+        (
+            "a fault before the form that isn't taken",
+            "route-map IN permit 10\n match ip address prefix-list PL\n set metric 5\n",
+            "in.cfg:2:2: outside: undefined\n",
+        ),
+        (
+            "the form that isn't taken before a fault",
+            "route-map IN permit 10\n set metric 5\n match ip address prefix-list PL\n",
+            "in.cfg:2:2: outside: unknown-form\n",
+        ),
+    ];
+    for (about, source, line) in rows {
+        assert!(rt;
+            refuses(rt.alloc(), source, Status::Outside, line),
+            "{about}"
+        );
+    }
 }

@@ -201,6 +201,39 @@ end-policy
 ",
         ),
         (
+            "descriptions, and other forms in what is not reached",
+            "M",
+            "ip prefix-list A description from the peer
+ip prefix-list A seq 5 permit 10.0.0.0/8
+ip prefix-list B seq 5 deny 10.0.0.0/8
+ip prefix-list B permit 11.0.0.0/8
+ip community-list standard C permit 65000:1
+route-map OUT permit 10
+ match community C
+ match ip address prefix-list A B
+ set metric 5
+ continue
+route-map IN permit 10
+ description from the peer
+ match ip address prefix-list A
+ description once more
+ set local-preference 200
+",
+            "prefix-set M-p1
+  10.0.0.0/8
+end-set
+!
+route-policy M
+  if destination in M-p1 then
+    set local-preference 200
+    done
+  endif
+  drop
+end-policy
+!
+",
+        ),
+        (
             "a name that is a word of the language",
             "pass",
             "ip prefix-list A seq 5 permit 10.0.0.0/8

@@ -1,5 +1,5 @@
 use Rattle.std.proofs.Common.{◌≡◌, ◌++◌, length}
-use Rattle.ios_reader.specs.Meaning.{entries_of}
+use Rattle.ios_reader.specs.Entries.{entries_of}
 use Rattle.policy_program.specs.Plan.{entry_views, plain_entries}
 use Rattle.policy_program.proofs.plan.entries_of.Given as goal
 

@@ -7,4 +7,4 @@ abbrev pub decreases-loop-rest : goal.decreases-loop-rest
 decreases-loop-rest l = length l.rest
 
 abbrev pub invariant-loop-rest : goal.invariant-loop-rest
-invariant-loop-rest l = map (λ e. e.now) l.found.items ++ list_entries l.rest ≡ list_entries l.items
+invariant-loop-rest l = map (λ e. e.1.now) l.found.items ++ list_entries l.rest ≡ list_entries l.items

@@ -1,5 +1,5 @@
 use Rattle.std.proofs.Common.{◌≡◌, ◌++◌, length}
-use Rattle.ios_reader.specs.Meaning.{lines_below}
+use Rattle.ios_reader.specs.Entries.{lines_below}
 use Rattle.policy_program.specs.Plan.{preferences_of}
 use Rattle.policy_program.proofs.plan.preferences_of.Given as goal
 

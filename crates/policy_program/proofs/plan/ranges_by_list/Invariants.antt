@@ -7,4 +7,4 @@ abbrev pub decreases-loop-rest : goal.decreases-loop-rest
 decreases-loop-rest l = length l.rest
 
 abbrev pub invariant-loop-rest : goal.invariant-loop-rest
-invariant-loop-rest l = (q : List ℕ) → ranges_at l.lists q ++ ranges_named q (map (λ e. e.now) l.rest) ≡ ranges_named q (map (λ e. e.now) l.entries)
+invariant-loop-rest l = (q : List ℕ) → ranges_at l.lists q ++ ranges_named q (map (λ e. e.1.now) l.rest) ≡ ranges_named q (map (λ e. e.1.now) l.entries)

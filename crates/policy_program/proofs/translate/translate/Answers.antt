@@ -6,7 +6,7 @@ use Rattle.policy_program.proofs.Right.{answers}
 use Rattle.policy_program.proofs.translate.translate.Goals as goal
 
 pub written_policy-requires-clause-plain : goal.written_policy-requires-clause-plain
-written_policy-requires-clause-plain c = subst (AllByRecursion HasPlainForm) (sym c.in-Ok.ensures.0) (tree_is_plain c.args.source.now)
+written_policy-requires-clause-plain c = subst (AllByRecursion HasPlainForm) (sym c.in-Ok.ensures.read) (tree_is_plain c.args.source.now)
 
 pub returns-in-Ok : goal.returns-in-Ok
-returns-in-Ok c = answers c.args.source.now c.args.policy.now c.args.name.now c.in-Ok.checked.items c.written_policy.result c.in-Ok.ensures.0 c.in-Ok.ensures.1 c.written_policy.ensures
+returns-in-Ok c = answers c.args.source.now c.args.policy.now c.args.name.now c.in-Ok.checked.items c.written_policy.result c.in-Ok.ensures.read c.in-Ok.ensures.in_profile c.in-Ok.ensures.sound c.written_policy.ensures

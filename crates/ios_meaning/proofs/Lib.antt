@@ -1,0 +1,8 @@
+mod Examples
+pub mod Alike
+pub mod CommunityLists
+pub mod Drafts
+pub mod InOrder
+pub mod Maps
+pub mod Members
+pub mod PrefixLists

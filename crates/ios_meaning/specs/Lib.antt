@@ -1,0 +1,5 @@
+pub mod Order
+pub mod Lists
+pub mod Meaning
+pub mod Answers
+pub mod Drafts

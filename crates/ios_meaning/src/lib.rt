@@ -1,0 +1,18 @@
+//! The meaning of a checked IOS policy on a route, and `judge_ios`, which answers by it. It stands on
+//! `ios_reader`, `prefix_sets` and `community_sets`. Its definitions are in `specs/`: `Order`, `Lists`
+//! and `Meaning` say what a policy means; `Answers` and `Drafts` are what the walks of the code find,
+//! and `proofs/` has that this is the meaning.
+#![tactic(auto)]
+
+mod answers;
+mod community_answers;
+mod deletions;
+mod draft;
+mod entries;
+mod judge;
+mod prefix_answers;
+
+pub use judge::judge_ios;
+
+#[cfg(test)]
+mod tests;

@@ -1,0 +1,60 @@
+-- The names of lists, and the words that are no plain numbers, prefixes or addresses.
+use Rattle.std.specs.Prelude.{ℕ, ◌-◌, ◌^◌, ◌==◌, ◌&&◌, Bool, true, false, List, [], ◌∷◌, Option, Some, codes, bytes_eq, length}
+use Rattle.std.specs.List.{list_all}
+use Rattle.route_types.specs.Words.{◌>>=◌, when, is_digit, number_in, parts_at, community_in}
+use Rattle.route_types.specs.Community.{RectParts}
+use Rattle.route_types.specs.declared.community.Community.{Community}
+use Rattle.policy_text.specs.Names.{is_name, first_some}
+
+-- digits without the zeros that stand before another digit
+abbrev pub without_zeros : List ℕ → List ℕ
+without_zeros [] = []
+without_zeros (c ∷ []) = c ∷ []
+without_zeros (c ∷ d ∷ cs) = elim (c == 48) [ true ↦ without_zeros (d ∷ cs) | false ↦ c ∷ d ∷ cs ]
+
+-- the name that a word gives a list: a word of digits alone is read by its number
+abbrev pub list_name : List ℕ → List ℕ
+list_name word = elim (list_all is_digit word) [ true ↦ without_zeros word | false ↦ word ]
+
+-- the list that a word names
+abbrev pub list_in : List ℕ → Option (List ℕ)
+list_in word = when (is_name word) (list_name word)
+
+-- `permit` or `deny`
+abbrev pub permit_in : List ℕ → Option Bool
+permit_in word = first_some (when (bytes_eq word (codes "permit")) true) (when (bytes_eq word (codes "deny")) false)
+
+-- the community of 32 bits
+abbrev pub community_of_bits : ℕ → Community
+community_of_bits bits = record { 0 = bits }
+
+-- the communities that have a word of their own (RFC 1997; `local-AS` is NO_EXPORT_SUBCONFED)
+abbrev pub known_community : List ℕ → Option Community
+known_community word =
+    first_some (when (bytes_eq word (codes "no-export")) (community_of_bits 4294967041))
+    (first_some (when (bytes_eq word (codes "no-advertise")) (community_of_bits 4294967042))
+    (when (bytes_eq word (codes "local-AS")) (community_of_bits 4294967043)))
+
+-- a community as one number, its 32 bits
+abbrev pub whole_community : List ℕ → Option Community
+whole_community word = do
+  bits ← number_in (2 ^ 32 - 1) word
+  Some (community_of_bits bits)
+
+-- the community that a word spells: `a:b`, a word of its own, or one number
+abbrev pub community_word_in : List ℕ → Option Community
+community_word_in word = first_some (community_in word) (first_some (known_community word) (whole_community word))
+
+-- the numbers that half of an expanded entry asks for: one, or all of them
+abbrev pub half_in : List ℕ → Option (ℕ × ℕ)
+half_in word = first_some (number_in 65535 word >>= λ n. Some (n, n)) (when (bytes_eq word (codes "[0-9]+")) (0, 65535))
+
+-- the communities that an expanded entry asks for: `_`, two halves joined by `:`, `_`
+unfoldable pub shape_in : List ℕ → Option RectParts
+shape_in word = do
+  front ← parts_at 95 word
+  back ← parts_at 95 front.1
+  halves ← parts_at 58 back.0
+  high ← half_in halves.0
+  low ← half_in halves.1
+  when (length front.0 == 0 && length back.1 == 0) (record { high_least = high.0; high_most = high.1; low_least = low.0; low_most = low.1 })

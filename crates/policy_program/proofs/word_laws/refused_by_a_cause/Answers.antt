@@ -1,0 +1,5 @@
+use Rattle.policy_program.proofs.Causes.{causes}
+use Rattle.policy_program.proofs.word_laws.refused_by_a_cause.Goals as goal
+
+pub returns-clause-causes : goal.returns-clause-causes
+returns-clause-causes c = causes

@@ -1,0 +1,87 @@
+// The commands as clap has them, and what it reads of the words.
+ghost use Rattle.std.specs.Prelude.{◌≡◌, false, true, IfOk, map, option_map};
+ghost use Rattle.std.specs.String.{string_bytes};
+ghost use Rattle.clap.specs.Words.{app_of, first_of, found_of, rows_of, rule_of};
+ghost use Rattle.clap.specs.declared.error.kind.ErrorKind.TheVariants.{OutOfMemory};
+ghost use Rattle.policy_program.specs.ClapCommands.{file_rule, is_plain, judge_app, option_rule, source_app, translate_app};
+ghost use Rattle.policy_program.specs.Spelled.{ParsesBy, rows_in};
+
+use crate::command::WordsFault;
+use clap::error::ErrorKind;
+use clap::{Arg, ArgMatches, Command};
+use std::alloc::{AllocError, Global};
+
+/// An option that takes one value and is required.
+fn required_option<'a>(alloc: Global, name: &'a str) -> Arg<'a>
+    ensures rule { rule_of result ≡ option_rule name.entry.now }
+    ensures local { result.global ≡ false }
+{
+    Arg::new(alloc, name).long(name).required(true)
+}
+
+/// A file, which is positional and required.
+fn required_file<'a>(alloc: Global, name: &'a str) -> Arg<'a>
+    ensures rule { rule_of result ≡ file_rule name.entry.now }
+    ensures local { result.global ≡ false }
+{
+    Arg::new(alloc, name).required(true)
+}
+
+/// The part of a command that names the source.
+fn source_command<'a>(alloc: Global, verb: &'a str) -> Result<Command<'a>, AllocError>
+    ensures { IfOk result (λ c. app_of c ≡ source_app verb.entry.now) }
+{
+    Command::new(alloc, verb)
+        .arg(required_option(alloc, "from"))?
+        .arg(required_option(alloc, "policy"))
+}
+
+/// The command of `translate`.
+#[tactic(auto, unfolding(crate::specs::ClapCommands::translate_app))]
+pub fn translate_command<'a>(alloc: Global) -> Result<Command<'a>, AllocError>
+    ensures { IfOk result (λ c. app_of c ≡ translate_app) }
+{
+    source_command(alloc, "translate")?
+        .arg(required_option(alloc, "to"))?
+        .arg(required_option(alloc, "as"))?
+        .arg(required_file(alloc, "file"))
+}
+
+/// The command of `judge`.
+#[tactic(auto, unfolding(crate::specs::ClapCommands::judge_app))]
+pub fn judge_command<'a>(alloc: Global) -> Result<Command<'a>, AllocError>
+    ensures { IfOk result (λ c. app_of c ≡ judge_app) }
+{
+    source_command(alloc, "judge")?
+        .arg(required_file(alloc, "file"))?
+        .arg(required_file(alloc, "route-file"))
+}
+
+/// The values that clap reads of the words.
+pub fn parsed<'a>(command: Command<'a>, words: &'a [String]) -> Result<ArgMatches<'a>, WordsFault>
+    requires { is_plain (app_of command) ≡ true }
+    ensures { ParsesBy (rows_in (app_of command.entry) (map string_bytes words.now)) result }
+{
+    match command.try_get_matches_from(words) {
+        Ok(matches) => Ok(matches),
+        Err(error) => Err(fault_by(error.kind())),
+    }
+}
+
+/// What an error of clap comes to.
+fn fault_by(kind: ErrorKind) -> WordsFault
+    ensures { result ≡ WordsFault.Usage → kind ≡ OutOfMemory → ⊥ }
+{
+    if kind == ErrorKind::OutOfMemory {
+        return WordsFault::Memory;
+    }
+    WordsFault::Usage
+}
+
+/// The value of an option or a file.
+#[tactic(auto, using(crate::proofs::ClapParse::value_row))]
+pub fn value<'a>(matches: &ArgMatches<'a>, name: &str) -> Option<&'a str>
+    ensures { option_map (λ s. s.now) result ≡ first_of name.now (rows_of (found_of matches.now)) }
+{
+    matches.get_str(name)
+}

@@ -1,0 +1,4 @@
+pub mod Walk
+pub mod Phrases
+pub mod Lengths
+mod Examples

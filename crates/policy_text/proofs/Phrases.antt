@@ -1,0 +1,164 @@
+-- The laws of phrases, both ways: what is found is spelled by the words, and what is spelled is found.
+use Rattle.std.proofs.Common.{◌≡◌, refl, sym, ap, ◌∙◌, ℕ, ◌<◌, ◌^◌, Bool, true, false, List, [], ◌∷◌, ◌++◌, length, append_assoc, Option, Some, None, arith}
+use Rattle.std.specs.Prelude.{IsTrue, bytes_eq, decimal, option_map}
+use Rattle.std.proofs.lemmas.List.{append-nil}
+use Rattle.std.proofs.lemmas.Slice.Eq.{bytes_eq-Decides}
+use Rattle.route_types.specs.Address.{PrefixParts, prefix_of}
+use Rattle.route_types.specs.Words.{◌>>=◌, when, number_in, address_in, prefix_in, community_in, IsNumber, IsAddress, IsPrefix, IsCommunity}
+use Rattle.route_types.specs.declared.address.Address.{Address}
+use Rattle.route_types.specs.declared.community.Community.{Community}
+use Rattle.route_types.proofs.Numbers.{some_is, bind_found, when_true, number_in_found, number_in_spelled}
+use Rattle.route_types.proofs.Spelled.{address_in_found, address_in_spelled, prefix_in_found, prefix_in_spelled, community_in_found, community_in_spelled}
+use Rattle.policy_text.specs.Names.{is_name}
+use Rattle.policy_text.specs.Phrases.{after, only, each, each_onto, some_each, name_in, Each}
+
+-- ---- the words behind the first ones
+
+-- a value that is given only by a test: the test holds, and it is this value
+pub when_found : {A : Type 0} (b : Bool) (x y : A) → when b x ≡ Some y → (b ≡ true) × (x ≡ y)
+when_found true x y e = (refl, some_is x y e)
+when_found false x y e = absurd cc
+
+same_bytes : (a b : List ℕ) → bytes_eq a b ≡ true → a ≡ b
+same_bytes a b e = (bytes_eq-Decides a b).0 e
+
+key_found : (t : Bool) (k w : List ℕ) (ks ws rest : List (List ℕ)) → bytes_eq k w ≡ t → (after ks ws ≡ Some rest → ws ≡ ks ++ rest) → (elim t [ true ↦ after ks ws | false ↦ None ]) ≡ Some rest → w ∷ ws ≡ (k ∷ ks) ++ rest
+key_found true k w ks ws rest t more e = let key = sym (same_bytes k w t) in let behind = more e in λ i. key i ∷ behind i
+key_found false k w ks ws rest t more e = absurd cc
+
+-- the words are these first words, and then what is behind them
+pub after_found : (ks ws rest : List (List ℕ)) → after ks ws ≡ Some rest → ws ≡ ks ++ rest
+unfolding after
+after_found [] ws rest e = some_is ws rest e
+after_found (k ∷ ks) [] rest e = absurd cc
+after_found (k ∷ ks) (w ∷ ws) rest e = key_found (bytes_eq k w) k w ks ws rest refl (after_found ks ws rest) e
+
+behind_keys : (ks rest : List (List ℕ)) → after ks (ks ++ rest) ≡ Some rest
+unfolding after
+behind_keys [] rest = refl
+behind_keys (k ∷ ks) rest = rw (after, (bytes_eq-Decides k k).1 refl) (behind_keys ks rest)
+
+-- what is behind these first words is found
+pub after_spelled : (ks ws rest : List (List ℕ)) → ws ≡ ks ++ rest → after ks ws ≡ Some rest
+after_spelled ks ws rest e = ap (λ (x : List (List ℕ)). after ks x) e ∙ behind_keys ks rest
+
+-- ---- the one word
+
+-- there is one word, and it has the value
+pub only_found : {A : Type 0} (f : List ℕ → Option A) (ws : List (List ℕ)) (x : A) → only f ws ≡ Some x → (w : List ℕ) × (ws ≡ w ∷ []) × (f w ≡ Some x)
+only_found f [] x e = absurd cc
+only_found f (w ∷ []) x e = (w, refl, e)
+only_found f (v ∷ w ∷ ws) x e = absurd cc
+
+-- the value of the one word is found
+pub only_spelled : {A : Type 0} (f : List ℕ → Option A) (ws : List (List ℕ)) (w : List ℕ) (x : A) → ws ≡ w ∷ [] → f w ≡ Some x → only f ws ≡ Some x
+only_spelled {A} f ws w x one e = ap (λ (vs : List (List ℕ)). only f vs) one ∙ e
+
+-- ---- all words
+
+-- the words have these values one by one
+pub each_found : {A : Type 0} (f : List ℕ → Option A) (P : List ℕ → A → Type 0) → ((w : List ℕ) (x : A) → f w ≡ Some x → P w x) → (ws : List (List ℕ)) (xs : List A) → each f ws ≡ Some xs → Each P ws xs
+unfolding each
+each_found f P is [] [] e = tt
+each_found f P is [] (x ∷ xs) e = absurd cc
+each_found f P is (w ∷ ws) [] e =
+    let first = bind_found (f w) _ [] e in
+    let rest = bind_found (each f ws) _ [] first.2 in
+    absurd (let k = some_is (first.0 ∷ rest.0) [] rest.2 in cc)
+each_found f P is (w ∷ ws) (x ∷ xs) e =
+    let first = bind_found (f w) _ (x ∷ xs) e in
+    let rest = bind_found (each f ws) _ (x ∷ xs) first.2 in
+    let k : first.0 ∷ rest.0 ≡ x ∷ xs = some_is (first.0 ∷ rest.0) (x ∷ xs) rest.2 in
+    (is w x (first.1 ∙ cc), each_found f P is ws xs (rest.1 ∙ cc))
+
+-- the values that the words have one by one are found
+pub each_spelled : {A : Type 0} (f : List ℕ → Option A) (P : List ℕ → A → Type 0) → ((w : List ℕ) (x : A) → P w x → f w ≡ Some x) → (ws : List (List ℕ)) (xs : List A) → Each P ws xs → each f ws ≡ Some xs
+unfolding each
+each_spelled f P is [] [] h = refl
+each_spelled f P is [] (x ∷ xs) h = absurd h
+each_spelled f P is (w ∷ ws) [] h = absurd h
+each_spelled f P is (w ∷ ws) (x ∷ xs) h = rw (is w x h.0, each_spelled f P is ws xs h.1) refl
+
+-- there is a word, and the words have these values one by one
+pub some_each_found : {A : Type 0} (f : List ℕ → Option A) (P : List ℕ → A → Type 0) → ((w : List ℕ) (x : A) → f w ≡ Some x → P w x) → (ws : List (List ℕ)) (xs : List A) → some_each f ws ≡ Some xs → (0 < length ws) × Each P ws xs
+some_each_found f P is [] xs e = absurd cc
+some_each_found f P is (w ∷ ws) xs e = (omega arith, each_found f P is (w ∷ ws) xs e)
+
+-- the values that the words have one by one are found, where there is a word
+pub some_each_spelled : {A : Type 0} (f : List ℕ → Option A) (P : List ℕ → A → Type 0) → ((w : List ℕ) (x : A) → P w x → f w ≡ Some x) → (ws : List (List ℕ)) (xs : List A) → 0 < length ws → Each P ws xs → some_each f ws ≡ Some xs
+some_each_spelled f P is [] xs some h = absurd (omega (arith, some))
+some_each_spelled f P is (w ∷ ws) xs some h = each_spelled f P is (w ∷ ws) xs h
+
+by_rest : {A : Type 0} (found : List A) (x : A) (o : Option (List A)) → option_map (λ xs. (found ++ x ∷ []) ++ xs) o ≡ option_map (λ xs. found ++ xs) (o >>= λ xs. Some (x ∷ xs))
+by_rest {A} found x (Some xs) = ap (λ (ys : List A). Some ys) (append_assoc found (x ∷ []) xs)
+by_rest found x None = refl
+
+onto_bind : {A : Type 0} (f : List ℕ → Option A) (found : List A) (o : Option A) (ws : List (List ℕ)) → ((x : A) → each_onto f (found ++ x ∷ []) ws ≡ option_map (λ xs. (found ++ x ∷ []) ++ xs) (each f ws)) → (o >>= λ x. each_onto f (found ++ x ∷ []) ws) ≡ option_map (λ xs. found ++ xs) (o >>= λ x. each f ws >>= λ xs. Some (x ∷ xs))
+onto_bind f found None ws more = refl
+onto_bind f found (Some x) ws more = more x ∙ by_rest found x (each f ws)
+
+-- the values found so far stand before those of the words
+onto_found : {A : Type 0} (f : List ℕ → Option A) (found : List A) (ws : List (List ℕ)) → each_onto f found ws ≡ option_map (λ xs. found ++ xs) (each f ws)
+unfolding each each_onto
+onto_found {A} f found [] = ap (λ (xs : List A). Some xs) (sym (append-nil found))
+onto_found f found (w ∷ ws) = onto_bind f found (f w) ws (λ x. onto_found f (found ++ x ∷ []) ws)
+
+from_nothing : {A : Type 0} (o : Option (List A)) → option_map (λ xs. [] ++ xs) o ≡ o
+from_nothing (Some xs) = refl
+from_nothing None = refl
+
+-- the walk over the words gives the values of all of them
+pub each_by_walk : {A : Type 0} (f : List ℕ → Option A) (ws : List (List ℕ)) → each_onto f [] ws ≡ each f ws
+each_by_walk f ws = onto_found f [] ws ∙ from_nothing (each f ws)
+
+-- ---- the values of a word
+
+-- the name is the word
+pub name_found : (w v : List ℕ) → name_in w ≡ Some v → (v ≡ w) × IsTrue (is_name w)
+name_found w v e = let h = when_found (is_name w) w v e in (sym h.1, h.0)
+
+-- a word that is a name is found
+pub name_spelled : (w v : List ℕ) → v ≡ w → IsTrue (is_name w) → name_in w ≡ Some v
+name_spelled w v e named = when_true (is_name w) w named ∙ ap (λ (x : List ℕ). Some x) (sym e)
+
+-- the number is spelled
+pub number_found : (most : ℕ) → most < 2 ^ 64 → (w : List ℕ) (n : ℕ) → number_in most w ≡ Some n → IsNumber most w n
+number_found most small w n e = number_in_found most w n small e
+
+-- a number that is spelled is found
+pub number_spelled : (most : ℕ) → most < 2 ^ 64 → (w : List ℕ) (n : ℕ) → IsNumber most w n → number_in most w ≡ Some n
+number_spelled most small w n h = ap (λ (x : List ℕ). number_in most x) h.spelled ∙ number_in_spelled most n h.within (omega (arith, h.within))
+
+-- the address is spelled
+pub address_found : (w : List ℕ) (a : Address) → address_in w ≡ Some a → IsAddress w a
+address_found w a e = address_in_found w a e
+
+-- an address that is spelled is found
+pub address_spelled : (w : List ℕ) (a : Address) → IsAddress w a → address_in w ≡ Some a
+address_spelled w a h =
+    ap (λ (x : List ℕ). address_in x) h.spelled
+    ∙ address_in_spelled h.octets (record { first = h.first; second = h.second; third = h.third; fourth = h.fourth })
+    ∙ ap (λ (b : Address). Some b) (sym h.value)
+
+-- the prefix is spelled
+pub prefix_found : (w : List ℕ) (p : PrefixParts) → prefix_in w ≡ Some p → IsPrefix w p
+prefix_found w p e = prefix_in_found w p e
+
+-- a prefix that is spelled is found
+pub prefix_spelled : (w : List ℕ) (p : PrefixParts) → IsPrefix w p → prefix_in w ≡ Some p
+prefix_spelled w p h =
+    let a = h.spells_address in
+    let text : w ≡ _ = h.spelled ∙ ap (λ (x : List ℕ). x ++ (47 ∷ decimal h.length)) a.spelled in
+    ap (λ (x : List ℕ). prefix_in x) text
+    ∙ prefix_in_spelled a.octets h.length (record { first = a.first; second = a.second; third = a.third; fourth = a.fourth }) h.within
+    ∙ ap (λ (q : PrefixParts). Some q) (sym (h.value ∙ ap (λ x. prefix_of x h.length) a.value))
+
+-- the community is spelled
+pub community_found : (w : List ℕ) (c : Community) → community_in w ≡ Some c → IsCommunity w c
+community_found w c e = community_in_found w c e
+
+-- a community that is spelled is found
+pub community_spelled : (w : List ℕ) (c : Community) → IsCommunity w c → community_in w ≡ Some c
+community_spelled w c h =
+    ap (λ (x : List ℕ). community_in x) h.spelled ∙ community_in_spelled h.high h.low h.high_within h.low_within
+    ∙ ap (λ (d : Community). Some d) (sym h.value)

@@ -1,0 +1,21 @@
+//! What the readers of all languages share: statements and their words, why a policy is refused, the
+//! cut of an IOS text, and the forms of words and statements. It stands on `route_types`. Its
+//! definitions are in `specs/`, a file a notion; the laws that crates above cite are in
+//! `proofs/Phrases`.
+#![tactic(auto)]
+
+mod fault;
+mod ios_cut;
+mod phrase;
+mod statement;
+
+pub use fault::{Cause, CheckFault};
+pub use ios_cut::ios_statements;
+pub use phrase::{
+    address_alone, after, bounds, copied, is, is_name, name_alone, number_alone, numbers, parts_at,
+};
+pub use route_types::{read_address, read_community, read_number, read_prefix};
+pub use statement::{Ender, Span, Statement, Word};
+
+#[cfg(test)]
+mod tests;

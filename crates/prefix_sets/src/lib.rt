@@ -1,0 +1,12 @@
+//! Sets of prefixes: ranges of prefixes, and lists whose first entry that holds a prefix decides. It
+//! stands on `route_types`. Its definitions are in `specs/`.
+#![tactic(auto)]
+
+mod list;
+mod range;
+
+pub use list::{PrefixEntry, PrefixList, holds};
+pub use range::PrefixRange;
+
+#[cfg(test)]
+mod tests;

@@ -1,0 +1,41 @@
+ghost use Rattle.std.specs.Prelude.{◌≡◌};
+ghost use Rattle.prefix_sets.specs.FirstMatch.{first_match};
+
+use crate::range::PrefixRange;
+use route_types::{Family, Prefix, Row};
+
+/// An entry of a prefix list: what it answers on the prefixes of its range.
+#[derive(Clone, Copy, Debug, PartialEq, Eq)]
+pub struct PrefixEntry {
+    pub permit: bool,
+    pub range: PrefixRange,
+}
+
+/// A prefix list of one family: its entries in the order in which they are tried.
+#[derive(Debug, Drop)]
+pub struct PrefixList {
+    pub family: Family,
+    pub entries: Row<PrefixEntry>,
+}
+
+#[tactic(auto, unfolding(crate::specs::FirstMatch::first_match))]
+fn first_match(entries: &[PrefixEntry], prefix: &Prefix) -> bool
+    ensures { result ≡ first_match entries.now prefix.now }
+{
+    let mut rest = entries;
+    while let [first, tail @ ..] = rest {
+        if first.range.holds(prefix) {
+            return first.permit;
+        }
+        rest = tail;
+    }
+    false
+}
+
+/// Whether the list permits the prefix: the first entry whose range holds it decides, and where
+/// none does the answer is no. It takes no memory.
+pub fn holds(list: &PrefixList, prefix: &Prefix) -> bool
+    ensures { result ≡ first_match list.now.entries prefix.now }
+{
+    first_match(list.entries.as_slice(), prefix)
+}

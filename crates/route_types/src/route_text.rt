@@ -1,0 +1,221 @@
+ghost use Rattle.std.specs.Prelude.{◌≡◌, vec_items, option_map, codes, IfOk, IfErr, IfSome};
+ghost use Rattle.route_types.specs.Words.{number_in, community_in};
+ghost use Rattle.route_types.specs.Community.{IsAscending};
+ghost use Rattle.route_types.specs.RouteText.{words_in, words_by_line, SpellsRoute};
+ghost use Rattle.route_types.specs.RouteLines.{next_hop_in, origin_in, each_in, prefix_of_line, next_hop_of_line, origin_of_line, path_of_line, number_of_line, communities_of_line};
+ghost use Rattle.route_types.specs.RouteRead.{Answers, first_line, found, route_in, IsRefusal};
+
+use crate::address::Prefix;
+use crate::community::{Community, set_of};
+use crate::fault::RouteFault;
+use crate::line_words::{behind, next_line, next_word, word_behind};
+use crate::memory::Memory;
+use crate::route::{NextHop, Origin, Route};
+use crate::row::Row;
+use crate::words::{read_address, read_community, read_number, read_prefix};
+use std::alloc::Global;
+
+// ---- what a line says
+
+fn prefix_of(line: &[u8]) -> Option<Prefix>
+    ensures { result ≡ prefix_of_line (words_in line.now) }
+{
+    let word = word_behind(line, b"route")?;
+    read_prefix(word)
+}
+
+#[tactic(auto, unfolding(crate::specs::RouteLines::next_hop_in))]
+fn next_hop_in(word: &[u8]) -> Option<NextHop>
+    ensures { result ≡ next_hop_in word.now }
+{
+    if word == b"self".as_slice() {
+        return Some(NextHop::Own);
+    }
+    let address = read_address(word)?;
+    Some(NextHop::At(address))
+}
+
+fn next_hop_of(line: &[u8]) -> Option<NextHop>
+    ensures { result ≡ next_hop_of_line (words_in line.now) }
+{
+    let word = word_behind(line, b"next-hop")?;
+    next_hop_in(word)
+}
+
+#[tactic(auto, unfolding(crate::specs::RouteLines::origin_in))]
+fn origin_in(word: &[u8]) -> Option<Origin>
+    ensures { result ≡ origin_in word.now }
+{
+    if word == b"igp".as_slice() {
+        return Some(Origin::Igp);
+    }
+    if word == b"egp".as_slice() {
+        return Some(Origin::Egp);
+    }
+    if word == b"incomplete".as_slice() {
+        return Some(Origin::Incomplete);
+    }
+    None
+}
+
+fn origin_of(line: &[u8]) -> Option<Origin>
+    ensures { result ≡ origin_of_line (words_in line.now) }
+{
+    let word = word_behind(line, b"origin")?;
+    origin_in(word)
+}
+
+#[tactic(auto, using(crate::proofs::Numbers::number_in_within))]
+fn number_of(line: &[u8], name: &[u8]) -> Option<u32>
+    ensures { result ≡ number_of_line name.now 4294967295 (words_in line.now) }
+{
+    let word = word_behind(line, name)?;
+    let number = read_number(word, 4294967295)?;
+    Some(number as u32)
+}
+
+#[tactic(auto, using(crate::proofs::Numbers::number_in_within))]
+fn weight_of(line: &[u8]) -> Option<u16>
+    ensures { result ≡ number_of_line (codes "weight") 65535 (words_in line.now) }
+{
+    let word = word_behind(line, b"weight")?;
+    let number = read_number(word, 65535)?;
+    Some(number as u16)
+}
+
+#[tactic(auto, using(crate::proofs::Numbers::number_in_within))]
+fn number_in(word: &[u8]) -> Option<u32>
+    ensures { result ≡ number_in 4294967295 word.now }
+{
+    let number = read_number(word, 4294967295)?;
+    Some(number as u32)
+}
+
+// The numbers that all the words spell. `None` where one spells none.
+fn numbers_in(alloc: Global, words: &[u8]) -> Result<Option<Row<u32>>, Memory>
+    ensures { IfOk result (λ o. o ≡ each_in (number_in 4294967295) (words_in words.now)) }
+{
+    let mut numbers = Row::new(alloc);
+    let mut rest = words;
+    while let Some((word, after)) = next_word(rest) {
+        match number_in(word) {
+            Some(number) => numbers.push(number)?,
+            None => return Ok(None),
+        }
+        rest = after;
+    }
+    Ok(Some(numbers))
+}
+
+fn path_of(alloc: Global, line: &[u8]) -> Result<Option<Row<u32>>, Memory>
+    ensures { IfOk result (λ o. o ≡ path_of_line (words_in line.now)) }
+{
+    match behind(line, b"as-path") {
+        Some(words) => numbers_in(alloc, words),
+        None => Ok(None),
+    }
+}
+
+// The communities that all the words spell. `None` where one spells none.
+fn communities_in(alloc: Global, words: &[u8]) -> Result<Option<Vec<Community>>, Memory>
+    ensures { IfOk result (λ o. option_map vec_items o ≡ each_in community_in (words_in words.now)) }
+{
+    let mut communities = Vec::new(alloc);
+    let mut rest = words;
+    while let Some((word, after)) = next_word(rest) {
+        match read_community(word) {
+            Some(community) => communities.push(community)?,
+            None => return Ok(None),
+        }
+        rest = after;
+    }
+    Ok(Some(communities))
+}
+
+#[tactic(auto, using(crate::proofs::Sets::is_ascending_set))]
+fn communities_of(alloc: Global, line: &[u8]) -> Result<Option<Row<Community>>, Memory>
+    ensures ascending { IfOk result (λ o. IfSome o (λ set. IsAscending set)) }
+    ensures value { IfOk result (λ o. o ≡ communities_of_line (words_in line.now)) }
+{
+    let Some(words) = behind(line, b"communities") else {
+        return Ok(None);
+    };
+    match communities_in(alloc, words)? {
+        Some(listed) => Ok(Some(Row::from_vec(set_of(listed)))),
+        None => Ok(None),
+    }
+}
+
+// ---- the lines in turn
+
+// The first line of a text, which has this number, and the text behind it.
+fn line(number: u64, text: &[u8]) -> Result<(&[u8], &[u8]), RouteFault>
+    ensures { Answers (λ p. (words_in p.0.now, words_by_line p.1.now)) result (first_line number (words_by_line text.now)) }
+{
+    match next_line(text) {
+        Some(found) => Ok(found),
+        None => Err(RouteFault::Line { number }),
+    }
+}
+
+fn found<T: Drop>(number: u64, value: Option<T>) -> Result<T, RouteFault>
+    ensures { Answers (λ x. x) result (found number value) }
+{
+    match value {
+        Some(value) => Ok(value),
+        None => Err(RouteFault::Line { number }),
+    }
+}
+
+#[tactic(auto, unfolding(crate::specs::RouteRead::route_in))]
+fn route_in(alloc: Global, text: &[u8]) -> Result<Route, RouteFault>
+    ensures { Answers (λ r. r) result (route_in text.now) }
+{
+    let (words, rest) = line(1, text)?;
+    let prefix = found(1, prefix_of(words))?;
+    let (words, rest) = line(2, rest)?;
+    let next_hop = found(2, next_hop_of(words))?;
+    let (words, rest) = line(3, rest)?;
+    let path = found(3, path_of(alloc, words)?)?;
+    let (words, rest) = line(4, rest)?;
+    let origin = found(4, origin_of(words))?;
+    let (words, rest) = line(5, rest)?;
+    let local_preference = found(5, number_of(words, b"local-preference"))?;
+    let (words, rest) = line(6, rest)?;
+    let med = found(6, number_of(words, b"med"))?;
+    let (words, rest) = line(7, rest)?;
+    let weight = found(7, weight_of(words))?;
+    let (words, rest) = line(8, rest)?;
+    let communities = found(8, communities_of(alloc, words)?)?;
+    if next_line(rest).is_some() {
+        return Err(RouteFault::Line { number: 9 });
+    }
+    Ok(Route {
+        prefix,
+        next_hop,
+        path,
+        origin,
+        local_preference,
+        med,
+        weight,
+        communities,
+    })
+}
+
+/// The route that a text spells: eight lines in this order, the last LF optional, a CR right before
+/// an LF dropped, words set apart by spaces and tabs. They are `route` and a prefix; `next-hop` and
+/// an address or `self`; `as-path` and its numbers; `origin` and `igp`, `egp` or `incomplete`;
+/// `local-preference`, `med` and `weight`, each with a number; `communities` and communities in any
+/// order, with or without repeats. Numbers go up to 2^32 - 1, a weight up to 65535.
+///
+/// `Line` comes exactly where the text spells no route, with the first line that is not the form,
+/// from 1; a missing line has the number that it would have, and a ninth line is not the form.
+/// `Memory` is want of memory.
+#[tactic(auto, using(crate::proofs::RouteSpelled::found_by, crate::proofs::RouteSpelled::refused_by))]
+pub fn read_route(alloc: Global, text: &[u8]) -> Result<Route, RouteFault>
+    ensures found { IfOk result (λ r. SpellsRoute text.now r) }
+    ensures refused { IfErr result (λ fault. IsRefusal text.now fault) }
+    ensures exact { Answers (λ r. r) result (route_in text.now) }
+{
+    route_in(alloc, text)
+}
