@@ -17,10 +17,10 @@ use Rattle.community_sets.specs.declared.list.CommEntry.{CommEntry}
 use Rattle.ios_reader.specs.Entries.{Entry}
 use Rattle.ios_reader.specs.declared.item.CommunityListEntry.{CommunityListEntry}
 use Rattle.ios_reader.specs.declared.item.IosForm.{IosForm}
-use Rattle.ios_reader.specs.declared.item.IosForm.TheVariants.{PrefixEntry as OfPrefixList, PrefixDescription, CommunityEntry as OfCommunityList, MapHeader, Line, Other}
+use Rattle.ios_reader.specs.declared.item.IosForm.TheVariants.{PrefixEntry as OfPrefixList, PrefixDescription, CommunityEntry as OfCommunityList, PathEntry as OfPathList, MapHeader, Line, Other}
 use Rattle.ios_reader.specs.declared.item.IosItem.{IosItem}
 use Rattle.ios_reader.specs.declared.item.MapLine.{MapLine}
-use Rattle.ios_reader.specs.declared.item.MapLine.TheVariants.{MatchPrefix, MatchNextHop, MatchCommunity, MatchMetric, SetLocalPreference, SetMetric, SetWeight, SetPrepend, SetOrigin, SetNextHop, SetCommunity, DeleteCommunities, Continue, Description}
+use Rattle.ios_reader.specs.declared.item.MapLine.TheVariants.{MatchPrefix, MatchNextHop, MatchCommunity, MatchPath, MatchMetric, SetLocalPreference, SetMetric, SetWeight, SetPrepend, SetOrigin, SetNextHop, SetCommunity, DeleteCommunities, Continue, Description}
 use Rattle.ios_meaning.specs.Lists.{test_of, community_list, community_entry_from}
 use Rattle.ios_meaning.specs.Meaning.{deletes, set_by, set_by_lines, set_by_entry, set_by_entries}
 use Rattle.ios_meaning.specs.Drafts.{entries_named, entry_named, entries_at, answers_alone, Removes, removes_by, route_of, draft_by, draft_by_lines, deletes_as, draft_by_entry, draft_by_entries}
@@ -126,6 +126,7 @@ form_answers : (list : List ℕ) (form : IosForm) (es : List CommunityListEntry)
 form_answers list (OfPrefixList e) es fs c more = more
 form_answers list (PrefixDescription d) es fs c more = more
 form_answers list (OfCommunityList e) es fs c more = entry_answers list e es fs c (bytes_eq list e.list) more
+form_answers list (OfPathList e) es fs c more = more
 form_answers list (MapHeader h) es fs c more = more
 form_answers list (Line l) es fs c more = more
 form_answers list (Other i) es fs c more = more
@@ -149,6 +150,7 @@ by_line : (removes : Removes) (all : List IosItem) → Right removes all → (p 
 by_line removes all right p (MatchPrefix m) d = refl
 by_line removes all right p (MatchNextHop m) d = refl
 by_line removes all right p (MatchCommunity m) d = refl
+by_line removes all right p (MatchPath m) d = refl
 by_line removes all right p (MatchMetric ns) d = refl
 by_line removes all right p (SetLocalPreference n) d = refl
 by_line removes all right p (SetMetric n) d = refl

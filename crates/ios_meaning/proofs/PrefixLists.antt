@@ -17,7 +17,7 @@ use Rattle.prefix_sets.specs.FirstMatch.{first_match}
 use Rattle.ios_reader.specs.Tree.{family_of}
 use Rattle.ios_reader.specs.declared.item.PrefixListEntry.{PrefixListEntry}
 use Rattle.ios_reader.specs.declared.item.IosForm.{IosForm}
-use Rattle.ios_reader.specs.declared.item.IosForm.TheVariants.{PrefixEntry as OfPrefixList, PrefixDescription, CommunityEntry as OfCommunityList, MapHeader, Line, Other}
+use Rattle.ios_reader.specs.declared.item.IosForm.TheVariants.{PrefixEntry as OfPrefixList, PrefixDescription, CommunityEntry as OfCommunityList, PathEntry as OfPathList, MapHeader, Line, Other}
 use Rattle.ios_reader.specs.declared.item.IosItem.{IosItem}
 use Rattle.ios_meaning.specs.Order.{put_in_order, in_order}
 use Rattle.ios_meaning.specs.Lists.{prefix_entry_from, prefix_entries, prefix_list}
@@ -192,6 +192,7 @@ decided_form p f list s (OfPrefixList e) o rest =
     step_by p e o rest (same_family f (family_of e)) (bytes_eq list e.list) (λ a. of_no_family p e (other_family f (family_of e) p.address.family s a))
 decided_form p f list s (PrefixDescription d) o rest = refl
 decided_form p f list s (OfCommunityList e) o rest = refl
+decided_form p f list s (OfPathList e) o rest = refl
 decided_form p f list s (MapHeader h) o rest = refl
 decided_form p f list s (Line l) o rest = refl
 decided_form p f list s (Other i) o rest = refl
@@ -211,6 +212,7 @@ none_form p f list s (OfPrefixList e) rest =
     none_by p e rest (same_family f (family_of e)) (bytes_eq list e.list) (λ a. of_no_family p e (not_the_family f (family_of e) p.address.family s a))
 none_form p f list s (PrefixDescription d) rest = refl
 none_form p f list s (OfCommunityList e) rest = refl
+none_form p f list s (OfPathList e) rest = refl
 none_form p f list s (MapHeader h) rest = refl
 none_form p f list s (Line l) rest = refl
 none_form p f list s (Other i) rest = refl

@@ -13,11 +13,12 @@ use Rattle.route_types.specs.declared.route.NextHop.TheVariants.{At, Own}
 use Rattle.prefix_sets.specs.Range.{in_range}
 use Rattle.prefix_sets.specs.FirstMatch.{first_match}
 use Rattle.community_sets.specs.Tests.{test_holds, list_answers}
+use Rattle.aspath_text.specs.Finds.{finds_in}
 use Rattle.ios_reader.specs.declared.item.PrefixListEntry.{PrefixListEntry}
 use Rattle.ios_reader.specs.declared.item.IosForm.{IosForm}
-use Rattle.ios_reader.specs.declared.item.IosForm.TheVariants.{PrefixEntry as OfPrefixList, PrefixDescription, CommunityEntry as OfCommunityList, MapHeader, Line, Other}
+use Rattle.ios_reader.specs.declared.item.IosForm.TheVariants.{PrefixEntry as OfPrefixList, PrefixDescription, CommunityEntry as OfCommunityList, PathEntry as OfPathList, MapHeader, Line, Other}
 use Rattle.ios_reader.specs.declared.item.IosItem.{IosItem}
-use Rattle.ios_meaning.specs.Lists.{prefix_list, community_list, test_of}
+use Rattle.ios_meaning.specs.Lists.{prefix_list, community_list, test_of, path_list, path_answers}
 use Rattle.ios_meaning.specs.declared.prefix_answers.Deciding.{Deciding}
 use Rattle.ios_meaning.specs.declared.answers.Answers.{Answers}
 
@@ -40,6 +41,7 @@ decided_by p list (OfPrefixList e) found = elim (in_range e.entry.range p) [
 ]
 decided_by p list (PrefixDescription d) found = found
 decided_by p list (OfCommunityList e) found = found
+decided_by p list (OfPathList e) found = found
 decided_by p list (MapHeader h) found = found
 decided_by p list (Line l) found = found
 decided_by p list (Other o) found = found
@@ -72,6 +74,7 @@ answered_by exact cs list (OfCommunityList e) found = elim (test_holds (test_of 
   | true ↦ elim (bytes_eq list e.list) [ true ↦ first_of found e.permit | false ↦ found ]
   | false ↦ found
 ]
+answered_by exact cs list (OfPathList e) found = found
 answered_by exact cs list (MapHeader h) found = found
 answered_by exact cs list (Line l) found = found
 answered_by exact cs list (Other o) found = found
@@ -89,6 +92,26 @@ answered_at m list = get_by (λ k. slice_cmp nat_cmp list k.now) m
 abbrev pub answers_at : BTreeMap (Bor (List ℕ)) Bool → List ℕ → Bool
 answers_at m list = unwrap_or (answered_at m list) false
 
+-- ---- path lists
+
+-- the answer behind one more item, for the list of this name
+abbrev pub path_answered_by : List ℕ → List ℕ → IosForm → Option Bool → Option Bool
+path_answered_by path list (OfPrefixList e) found = found
+path_answered_by path list (PrefixDescription d) found = found
+path_answered_by path list (OfCommunityList e) found = found
+path_answered_by path list (OfPathList e) found = elim (finds_in e.pattern path) [
+  | true ↦ elim (bytes_eq list e.list) [ true ↦ first_of found e.permit | false ↦ found ]
+  | false ↦ found
+]
+path_answered_by path list (MapHeader h) found = found
+path_answered_by path list (Line l) found = found
+path_answered_by path list (Other o) found = found
+
+-- the answer behind these items, one having been found before them or not
+unfoldable pub path_answered_from : List ℕ → List ℕ → Option Bool → List IosItem → Option Bool
+path_answered_from path list found [] = found
+path_answered_from path list found (i ∷ is) = path_answered_from path list (path_answered_by path list i.form found) is
+
 -- ---- all lists
 
 -- the map has the answers of the prefix lists on this prefix
@@ -104,9 +127,14 @@ AreNextHopAnswers all Own m = Unit {0}
 abbrev pub AreCommunityAnswers : List IosItem → Bool → List Community → BTreeMap (Bor (List ℕ)) Bool → Type 0
 AreCommunityAnswers all exact cs m = (list : List ℕ) → answers_at m list ≡ list_answers (community_list exact list all) cs
 
+-- the map has the answers of the path lists on this path
+abbrev pub ArePathAnswers : List IosItem → List ℕ → BTreeMap (Bor (List ℕ)) Bool → Type 0
+ArePathAnswers all path m = (list : List ℕ) → answers_at m list ≡ path_answers (path_list list all) path
+
 -- the maps have the answers of the lists of the tree on the route
 pub record AreAnswers (a : Answers) : Type 0 where
   pub on_prefix : ArePrefixAnswers a.items.now a.route.now.prefix a.prefix_lists
   pub on_next_hop : AreNextHopAnswers a.items.now a.route.now.next_hop a.next_hop_lists
   pub on_communities : AreCommunityAnswers a.items.now false a.route.now.communities a.community_lists
+  pub on_path : ArePathAnswers a.items.now a.route.now.path a.path_lists
   pub exactly : AreCommunityAnswers a.items.now true a.route.now.communities a.exact_lists

@@ -15,7 +15,7 @@ use Rattle.community_sets.specs.Tests.{test_holds}
 use Rattle.ios_reader.specs.Entries.{Entry}
 use Rattle.ios_reader.specs.declared.item.CommunityListEntry.{CommunityListEntry}
 use Rattle.ios_reader.specs.declared.item.IosForm.{IosForm}
-use Rattle.ios_reader.specs.declared.item.IosForm.TheVariants.{PrefixEntry as OfPrefixList, PrefixDescription, CommunityEntry as OfCommunityList, MapHeader, Line, Other}
+use Rattle.ios_reader.specs.declared.item.IosForm.TheVariants.{PrefixEntry as OfPrefixList, PrefixDescription, CommunityEntry as OfCommunityList, PathEntry as OfPathList, MapHeader, Line, Other}
 use Rattle.ios_reader.specs.declared.item.IosItem.{IosItem}
 use Rattle.ios_reader.specs.declared.item.MapLine.{MapLine}
 use Rattle.ios_reader.specs.declared.item.MapLine.TheVariants.{SetLocalPreference, SetMetric, SetWeight, SetPrepend, SetOrigin, SetNextHop, SetCommunity, DeleteCommunities}
@@ -30,10 +30,12 @@ use Rattle.ios_meaning.specs.declared.entries.MapEntry.{MapEntry}
 abbrev pub entry_of : MapEntry → Entry
 entry_of e = record { number = e.number; permit = e.permit; lines = map (λ l. l.now) e.lines.items }
 
+-- an item as an entry of this community list, before those behind it
 abbrev pub entry_named : List ℕ → IosForm → List CommunityListEntry → List CommunityListEntry
 entry_named list (OfPrefixList e) rest = rest
 entry_named list (PrefixDescription d) rest = rest
 entry_named list (OfCommunityList e) rest = elim (bytes_eq list e.list) [ true ↦ e ∷ rest | false ↦ rest ]
+entry_named list (OfPathList e) rest = rest
 entry_named list (MapHeader h) rest = rest
 entry_named list (Line l) rest = rest
 entry_named list (Other o) rest = rest

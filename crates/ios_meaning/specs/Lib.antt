@@ -3,3 +3,4 @@ pub mod Lists
 pub mod Meaning
 pub mod Answers
 pub mod Drafts
+pub mod Deletions

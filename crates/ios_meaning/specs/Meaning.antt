@@ -19,9 +19,9 @@ use Rattle.community_sets.specs.Tests.{list_answers}
 use Rattle.ios_reader.specs.Entries.{Entry, entries_of}
 use Rattle.ios_reader.specs.declared.item.IosItem.{IosItem}
 use Rattle.ios_reader.specs.declared.item.MapLine.{MapLine}
-use Rattle.ios_reader.specs.declared.item.MapLine.TheVariants.{MatchPrefix, MatchNextHop, MatchCommunity, MatchMetric, SetLocalPreference, SetMetric, SetWeight, SetPrepend, SetOrigin, SetNextHop, SetCommunity, DeleteCommunities, Continue}
+use Rattle.ios_reader.specs.declared.item.MapLine.TheVariants.{MatchPrefix, MatchNextHop, MatchCommunity, MatchPath, MatchMetric, SetLocalPreference, SetMetric, SetWeight, SetPrepend, SetOrigin, SetNextHop, SetCommunity, DeleteCommunities, Continue}
 use Rattle.ios_meaning.specs.Order.{in_order}
-use Rattle.ios_meaning.specs.Lists.{prefix_list, community_list}
+use Rattle.ios_meaning.specs.Lists.{prefix_list, community_list, path_list, path_answers}
 
 -- some prefix list of the family holds a next hop's address, taken as a prefix of full length; the router's
 -- own address is in none
@@ -34,6 +34,7 @@ abbrev pub line_holds : List IosItem → RouteParts → MapLine → Bool
 line_holds all r (MatchPrefix m) = list_any (λ list. first_match (prefix_list m.family list all) r.prefix) m.lists
 line_holds all r (MatchNextHop m) = next_hop_holds all m.family m.lists r.next_hop
 line_holds all r (MatchCommunity m) = list_any (λ list. list_answers (community_list m.exact list all) r.communities) m.lists
+line_holds all r (MatchPath m) = list_any (λ list. path_answers (path_list list all) r.path) m.lists
 line_holds all r (MatchMetric ns) = list_any (λ n. n == r.med) ns
 line_holds all r _ = true
 
@@ -72,11 +73,12 @@ abbrev pub set_by_entries : List IosItem → List Entry → RouteParts → Route
 set_by_entries all [] r = r
 set_by_entries all (e ∷ es) r = set_by_entries all es (set_by_entry all e r)
 
--- where the run goes on behind an entry: nowhere, at the next entry, or at the one of a number
+-- where a line says that the run goes on, or else the lines behind it
 abbrev pub continuation_in : MapLine → Option (Option ℕ) → Option (Option ℕ)
 continuation_in (Continue s) rest = Some s
 continuation_in _ rest = rest
 
+-- where the run goes on behind an entry: nowhere, at the next entry, or at the one of a number
 abbrev pub continuation_of : List MapLine → Option (Option ℕ)
 continuation_of [] = None
 continuation_of (l ∷ ls) = continuation_in l (continuation_of ls)

@@ -3,11 +3,12 @@ ghost use Rattle.std.specs.Prelude.{◌≡◌, ◌==◌, ◌&&◌, IfOk, map};
 ghost use Rattle.route_types.specs.Address.{same_family};
 ghost use Rattle.std.specs.List.{list_any, list_all};
 ghost use Rattle.ios_meaning.specs.Meaning.{next_hop_holds, line_holds};
-ghost use Rattle.ios_meaning.specs.Answers.{permits_at, AreAnswers, ArePrefixAnswers, AreNextHopAnswers, AreCommunityAnswers};
+ghost use Rattle.ios_meaning.specs.Answers.{permits_at, AreAnswers, ArePrefixAnswers, AreNextHopAnswers, AreCommunityAnswers, ArePathAnswers};
 
 use crate::community_answers::{answers, some_answers};
+use crate::path_answers::path_answers;
 use crate::prefix_answers::{Deciding, deciding_entries, same_family, some_permits};
-use ios_reader::{CommunityMatch, IosItem, MapLine, PrefixMatch};
+use ios_reader::{CommunityMatch, IosItem, MapLine, PathMatch, PrefixMatch};
 use route_types::{Address, Family, Memory, NextHop, Prefix, Route};
 use std::alloc::Global;
 use std::collections::BTreeMap;
@@ -21,6 +22,7 @@ pub struct Answers<'a> {
     pub next_hop_lists: BTreeMap<&'a [u8], Deciding>,
     pub community_lists: BTreeMap<&'a [u8], bool>,
     pub exact_lists: BTreeMap<&'a [u8], bool>,
+    pub path_lists: BTreeMap<&'a [u8], bool>,
 }
 
 // The answers of the prefix lists on the prefix of this address and length.
@@ -63,6 +65,18 @@ fn on_communities<'a>(
     Ok(found)
 }
 
+// The answers of the path lists on the path of a route.
+fn on_path<'a>(
+    alloc: Global,
+    items: &'a [IosItem],
+    route: &Route,
+) -> Result<BTreeMap<&'a [u8], bool>, Memory>
+    ensures { IfOk result (ArePathAnswers items.now route.now.path) }
+{
+    let found = path_answers(alloc, items, route.path())?;
+    Ok(found)
+}
+
 /// The answers of the lists of a tree on a route.
 pub fn answers_on<'a>(
     alloc: Global,
@@ -78,6 +92,7 @@ pub fn answers_on<'a>(
     let next_hop_lists = on_next_hop(alloc, items, route.next_hop())?;
     let community_lists = on_communities(alloc, items, false, route)?;
     let exact_lists = on_communities(alloc, items, true, route)?;
+    let path_lists = on_path(alloc, items, route)?;
     Ok(Answers {
         items,
         route,
@@ -85,6 +100,7 @@ pub fn answers_on<'a>(
         next_hop_lists,
         community_lists,
         exact_lists,
+        path_lists,
     })
 }
 
@@ -128,6 +144,14 @@ fn communities_hold<'a>(answers: &Answers<'a>, line: &'a CommunityMatch) -> bool
     }
 }
 
+// Whether some path list that the line names answers yes.
+fn path_holds<'a>(answers: &Answers<'a>, line: &'a PathMatch) -> bool
+    requires { AreAnswers answers.now }
+    ensures { result ≡ line_holds answers.now.items.now answers.now.route.now (MapLine.MatchPath line.now) }
+{
+    some_answers(&answers.path_lists, line.lists.as_slice())
+}
+
 fn is_among(numbers: &[u32], number: u32) -> bool
     ensures { result ≡ list_any (λ n. n == number) numbers.now }
 {
@@ -143,6 +167,7 @@ fn line_holds<'a>(answers: &Answers<'a>, line: &'a MapLine) -> bool
         MapLine::MatchPrefix(named) => prefix_holds(answers, named),
         MapLine::MatchNextHop(named) => next_hop_holds(answers, named),
         MapLine::MatchCommunity(named) => communities_hold(answers, named),
+        MapLine::MatchPath(named) => path_holds(answers, named),
         MapLine::MatchMetric(numbers) => is_among(numbers.as_slice(), answers.route.med()),
         MapLine::SetLocalPreference(_) | MapLine::SetMetric(_) | MapLine::SetWeight(_) => true,
         MapLine::SetPrepend(_) | MapLine::SetOrigin(_) | MapLine::SetNextHop(_) => true,

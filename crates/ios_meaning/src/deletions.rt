@@ -1,11 +1,10 @@
 // Which communities `set comm-list` takes away.
-ghost use Rattle.std.specs.Prelude.{◌≡◌, ◌==◌, ◌∷◌, ◌++◌, [], not, ℕ, List, IfOk, map, filter, bytes_eq, true, false};
-ghost use Rattle.std.specs.List.{list_all};
-ghost use Rattle.community_sets.specs.Tests.{test_holds};
-ghost use Rattle.ios_meaning.specs.Lists.{test_of};
+ghost use Rattle.std.specs.Prelude.{◌≡◌, ◌∷◌, ◌++◌, [], not, ℕ, List, IfOk, map, filter, bytes_eq, true, false};
 ghost use Rattle.ios_meaning.specs.Drafts.{entries_named, entries_at, answers_alone, removes_by};
+ghost use Rattle.ios_meaning.specs.Deletions.{IsIndex};
 
-use ios_reader::{CommunityListEntry, CommunityShape, IosForm, IosItem};
+use crate::deletion_index::{Index, answers_alone, index_of};
+use ios_reader::{CommunityListEntry, IosForm, IosItem};
 use route_types::{Community, Memory, Row};
 use std::alloc::Global;
 use std::collections::BTreeMap;
@@ -58,34 +57,24 @@ pub fn lists_by_name<'a>(alloc: Global, items: &'a [IosItem]) -> Result<ListsByN
     Ok(lists)
 }
 
-fn are_all(members: &[Community], community: &Community) -> bool
-    ensures { result ≡ list_all (λ m. m.0 == community.now.0) members.now }
+// The communities without those for which the entries of an index answer yes on each alone.
+fn without<'a>(
+    alloc: Global,
+    index: &Index<'a>,
+    communities: &[Community],
+) -> Result<Vec<Community>, Memory>
+    requires { IsIndex index.now }
+    ensures { IfOk result (λ kept. kept.items ≡ filter (λ c. not (answers_alone (map (λ e. e.now) index.now.entries.now) c)) communities.now) }
 {
-    members.iter().all(|member| member.0 == community.0)
-}
-
-// Whether a community alone has what an entry asks for.
-fn holds_alone(shape: &CommunityShape, community: &Community) -> bool
-    ensures { result ≡ test_holds (test_of false shape.now) (community.now ∷ []) }
-{
-    match shape {
-        CommunityShape::Standard(members) => are_all(members.as_slice(), community),
-        CommunityShape::Expanded(rect) => rect.fits(community),
-    }
-}
-
-// What the entries of a list answer on a community alone.
-fn answers_alone(entries: &[&CommunityListEntry], community: &Community) -> bool
-    ensures { result ≡ answers_alone (map (λ e. e.now) entries.now) community.now }
-{
-    let mut rest = entries;
-    while let [entry, behind @ ..] = rest {
-        if holds_alone(&entry.shape, community) {
-            return entry.permit;
+    let mut kept = Vec::new(alloc);
+    let mut rest = communities;
+    while let [community, behind @ ..] = rest {
+        if !answers_alone(index, community) {
+            kept.push(*community)?;
         }
         rest = behind;
     }
-    false
+    Ok(kept)
 }
 
 // The communities without those for which the entries answer yes on each alone.
@@ -96,11 +85,8 @@ fn kept_by(
 ) -> Result<Row<Community>, Memory>
     ensures { IfOk result (λ kept. kept ≡ filter (λ c. not (answers_alone (map (λ e. e.now) entries.now) c)) communities.now) }
 {
-    let kept = communities
-        .iter()
-        .copied()
-        .filter(|community| !answers_alone(entries, community))
-        .collect(alloc)?;
+    let index = index_of(alloc, entries)?;
+    let kept = without(alloc, &index, communities)?;
     Ok(Row::from_vec(kept))
 }
 

@@ -149,7 +149,7 @@ fn with_line<'a>(
         MapLine::SetCommunity(setting) => with_setting(alloc, setting, draft),
         MapLine::DeleteCommunities(list) => without(alloc, lists, list.as_slice(), draft),
         MapLine::MatchPrefix(_) | MapLine::MatchNextHop(_) => Ok(draft),
-        MapLine::MatchCommunity(_) | MapLine::MatchMetric(_) => Ok(draft),
+        MapLine::MatchCommunity(_) | MapLine::MatchPath(_) | MapLine::MatchMetric(_) => Ok(draft),
         MapLine::Continue(_) | MapLine::Description => Ok(draft),
     }
 }

@@ -33,7 +33,7 @@ fn is_line(form: &IosForm) -> bool
 {
     match form {
         IosForm::PrefixEntry(_) | IosForm::PrefixDescription(_) => false,
-        IosForm::CommunityEntry(_) | IosForm::MapHeader(_) => false,
+        IosForm::CommunityEntry(_) | IosForm::PathEntry(_) | IosForm::MapHeader(_) => false,
         IosForm::Line(_) => true,
         IosForm::Other(other) => is_line_sort(other.sort),
     }

@@ -64,7 +64,7 @@ const HOSTS: &[u8] = b"ip prefix-list H permit 0.0.0.0/0 ge 32\n\
 
 #[test]
 fn outcomes(rt: HostRuntime) {
-    let rows: [(&[u8], &[u8], Option<(u32, &[u32], &[Community])>); 17] = [
+    let rows: [(&[u8], &[u8], Option<(u32, &[u32], &[Community])>); 20] = [
         (PAST_DENY, b"10.0.0.0/8", Some((50, &[65001], &[A1, A3]))),
         (PAST_DENY, b"172.16.0.0/12", None),
         (DENY_FIRST, b"10.1.2.0/24", None),
@@ -81,6 +81,23 @@ fn outcomes(rt: HostRuntime) {
             b"ip community-list standard D permit 65000:1\nroute-map M permit 10\n set comm-list D delete\n",
             b"10.0.0.0/8",
             Some((0, &[65001], &[A3])),
+        ),
+        // The first entry that holds for a community alone decides whether it goes, whatever it names.
+        (
+            b"ip community-list expanded E deny _65000:3_\nip community-list expanded E permit _65000:[0-9]+_\nroute-map M permit 10\n set comm-list E delete\n",
+            b"10.0.0.0/8",
+            Some((0, &[65001], &[A3])),
+        ),
+        (
+            b"ip community-list expanded E permit _[0-9]+:1_\nip community-list expanded E deny _65000:[0-9]+_\nip community-list expanded E permit _[0-9]+:[0-9]+_\nroute-map M permit 10\n set comm-list E delete\n",
+            b"10.0.0.0/8",
+            Some((0, &[65001], &[A3])),
+        ),
+        // An entry of two communities holds for none alone.
+        (
+            b"ip community-list standard D deny 65000:1 65000:3\nip community-list standard D permit 65000:3 65000:3\nroute-map M permit 10\n set comm-list D delete\n",
+            b"10.0.0.0/8",
+            Some((0, &[65001], &[A1])),
         ),
         (
             b"route-map M permit 10\n set community none\n set as-path prepend 65010 65020\n",
@@ -130,6 +147,73 @@ fn outcomes(rt: HostRuntime) {
         assert!(rt;
             outcome.is_some_and(|o| is_wanted(&o, want)),
             "{text:?} {prefix:?}"
+        );
+    }
+}
+
+const CUSTOMER: &[u8] = b"ip prefix-list CUST-IN seq 5 permit 203.0.113.0/24 le 28\n\
+    ip as-path access-list 10 permit ^65001(_65001)*$\n\
+    ip community-list standard BLACKHOLE permit 65000:666\n\
+    route-map M deny 10\n match community BLACKHOLE\n\
+    route-map M permit 20\n description customer routes\n match ip address prefix-list CUST-IN\n match as-path 10\n set local-preference 200\n set community 65000:100 additive\n";
+
+// The first entry whose pattern is found decides; a list of no such entry answers no.
+const FIRST_OF_LIST: &[u8] = b"ip as-path access-list 1 deny ^65001_.*_65002$\n\
+    ip as-path access-list 1 permit ^65001_\n\
+    ip as-path access-list 2 permit ^$\n\
+    route-map M permit 10\n match as-path 1 2\n set local-preference 200\n set community 65000:100\n";
+
+// What the policy M of a text makes of a route of 203.0.113.0/24 with this path and these communities.
+fn judged_on(
+    alloc: Global,
+    text: &[u8],
+    path: &[u32],
+    communities: &[Community],
+) -> Option<Outcome> {
+    let tree = read_ios(alloc, text).ok()?;
+    let policy = check_ios(alloc, tree, b"M").ok()?;
+    let prefix = read_prefix(b"203.0.113.0/24")?;
+    let hop = NextHop::Own;
+    let origin = Origin::Igp;
+    let route = new_route(alloc, prefix, hop, path, origin, 100, 0, 0, communities).ok()?;
+    judge_ios(alloc, &policy, &route).ok()
+}
+
+// Whether the route is rejected, where nothing is wanted, or accepted with local preference 200 and these
+// communities.
+fn is_preferred(outcome: &Outcome, want: Option<&[Community]>) -> bool {
+    match outcome {
+        Outcome::Reject => want.is_none(),
+        Outcome::Accept(route) => match want {
+            Some(communities) => {
+                route.local_preference() == 200 && route.communities() == communities
+            }
+            None => false,
+        },
+    }
+}
+
+#[test]
+fn paths(rt: HostRuntime) {
+    let tagged = Community(65000 * 65536 + 100);
+    let blackhole = Community(65000 * 65536 + 666);
+    let rows: [(&[u8], &[u32], &[Community], Option<&[Community]>); 10] = [
+        (CUSTOMER, &[65001, 65001], &[], Some(&[tagged])),
+        (CUSTOMER, &[65001], &[A1], Some(&[A1, tagged])),
+        (CUSTOMER, &[65001, 65001], &[blackhole], None),
+        (CUSTOMER, &[65001, 65002], &[], None),
+        (CUSTOMER, &[], &[], None),
+        (FIRST_OF_LIST, &[65001, 3, 65002], &[], None),
+        (FIRST_OF_LIST, &[65001, 65002], &[], Some(&[tagged])),
+        (FIRST_OF_LIST, &[65001], &[], Some(&[tagged])),
+        (FIRST_OF_LIST, &[], &[], Some(&[tagged])),
+        (FIRST_OF_LIST, &[650010], &[], None),
+    ];
+    for (text, path, communities, want) in rows {
+        let outcome = judged_on(rt.alloc(), text, path, communities);
+        assert!(rt;
+            outcome.is_some_and(|o| is_preferred(&o, want)),
+            "{text:?} {path:?}"
         );
     }
 }

@@ -7,7 +7,7 @@ use Rattle.policy_text.specs.declared.fault.Cause.{Cause}
 use Rattle.policy_text.specs.declared.fault.Cause.TheVariants.{UnknownForm}
 use Rattle.ios_reader.specs.Profile.{has_no_form, is_unknown, reached, fault_at, first_fault_from, first_fault_within, is_defined, InProfile}
 use Rattle.ios_reader.specs.declared.item.IosForm.{IosForm}
-use Rattle.ios_reader.specs.declared.item.IosForm.TheVariants.{PrefixEntry, PrefixDescription, CommunityEntry, MapHeader, Line, Other}
+use Rattle.ios_reader.specs.declared.item.IosForm.TheVariants.{PrefixEntry, PrefixDescription, CommunityEntry, PathEntry, MapHeader, Line, Other}
 use Rattle.ios_reader.specs.declared.item.IosItem.{IosItem}
 use Rattle.ios_reader.specs.declared.item.Forms.{Forms}
 use Rattle.ios_reader.specs.declared.item.Forms.TheVariants.{All, First}
@@ -17,6 +17,7 @@ unknown_first : (form : IosForm) → has_no_form form ≡ true → is_unknown Fi
 unknown_first (PrefixEntry e) h = absurd cc
 unknown_first (PrefixDescription d) h = absurd cc
 unknown_first (CommunityEntry e) h = absurd cc
+unknown_first (PathEntry e) h = absurd cc
 unknown_first (MapHeader m) h = absurd cc
 unknown_first (Line l) h = absurd cc
 unknown_first (Other o) h = refl

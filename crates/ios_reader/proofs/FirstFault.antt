@@ -7,7 +7,7 @@ use Rattle.ios_reader.specs.Tree.{family_of}
 use Rattle.ios_reader.specs.Sorts.{is_line, is_expanded}
 use Rattle.ios_reader.specs.Profile.{is_prefix_entry, is_map_header, is_community_entry, is_second_sort, repeats_number, is_unknown, fault_at, first_fault_from, first_fault_within}
 use Rattle.ios_reader.specs.declared.item.IosForm.{IosForm}
-use Rattle.ios_reader.specs.declared.item.IosForm.TheVariants.{PrefixEntry, PrefixDescription, CommunityEntry, MapHeader, Line, Other}
+use Rattle.ios_reader.specs.declared.item.IosForm.TheVariants.{PrefixEntry, PrefixDescription, CommunityEntry, PathEntry, MapHeader, Line, Other}
 use Rattle.ios_reader.specs.declared.item.IosItem.{IosItem}
 use Rattle.ios_reader.specs.declared.item.Forms.{Forms}
 use Rattle.ios_reader.specs.Facts.{Facts, facts_of}
@@ -25,11 +25,14 @@ facts_are : (name : List ℕ) (all : List IosItem) (facts : Facts) → Knows nam
 facts_are name all facts known = λ i. record {
   prefix_list = λ f q. known.prefix_list_is f q i;
   community_list = λ q. known.community_list_is q i;
+  path_list = λ q. known.path_list_is q i;
   names_prefix = λ f q. known.names_prefix_is f q i;
   names_community = λ q. known.names_community_is q i;
+  names_path = λ q. known.names_path_is q i;
   is_expanded = λ q. known.is_expanded_is q i;
   is_number = λ n. known.is_number_is n i;
   med = λ n. known.med_is n i;
+  path = λ n. known.path_is n i;
   next_hop = λ n. known.next_hop_is n i;
   communities = λ n. known.communities_is n i;
 }
@@ -48,6 +51,7 @@ second_is : (name : List ℕ) (before : List IosItem) (k : Kept) (form : IosForm
 second_is name before k (PrefixEntry e) behind = refl
 second_is name before k (PrefixDescription d) behind = refl
 second_is name before k (CommunityEntry e) behind = λ i. behind.sorts_are e.list (not (is_expanded e.shape)) i && not (behind.sorts_are e.list (is_expanded e.shape) i)
+second_is name before k (PathEntry e) behind = refl
 second_is name before k (MapHeader h) behind = refl
 second_is name before k (Line l) behind = refl
 second_is name before k (Other o) behind = refl
@@ -56,6 +60,7 @@ repeats_is : (name : List ℕ) (before : List IosItem) (k : Kept) (form : IosFor
 repeats_is name before k (PrefixEntry e) behind = behind.entries_are (family_of e) e.list e.number
 repeats_is name before k (PrefixDescription d) behind = refl
 repeats_is name before k (CommunityEntry e) behind = refl
+repeats_is name before k (PathEntry e) behind = refl
 repeats_is name before k (MapHeader h) behind = behind.headers_are h.map h.number
 repeats_is name before k (Line l) behind = refl
 repeats_is name before k (Other o) behind = refl

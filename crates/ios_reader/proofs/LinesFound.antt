@@ -11,16 +11,18 @@ use Rattle.route_types.proofs.Numbers.{number_in_spelled}
 use Rattle.policy_text.specs.Names.{first_some}
 use Rattle.policy_text.specs.Phrases.{after, some_each}
 use Rattle.policy_text.proofs.Phrases.{number_spelled, address_spelled}
-use Rattle.ios_reader.specs.Names.{list_in, community_word_in}
-use Rattle.ios_reader.specs.Forms.{match_prefix_in, match_next_hop_in, match_community_in, match_metric_in, set_local_preference_in, set_metric_in, set_weight_in, set_prepend_in, origin_in, set_origin_in, set_next_hop_in, no_communities_in, some_communities_in, set_community_in, delete_communities_in, target_in, continue_in, description_in, match_line_in, set_value_in, set_list_in, line_in}
-use Rattle.ios_reader.specs.Spelling.{IsListWord, IsCommunityWord, IsOriginWord, AreLists, AreNumbers, AreCommunities, SpellOption, SpellCommunityMatch, SpellCommunities, SpellNone, SpellLine}
+use Rattle.ios_reader.specs.Names.{list_in, path_list_in, community_word_in}
+use Rattle.ios_reader.specs.Forms.{match_prefix_in, match_next_hop_in, match_community_in, match_path_in, match_metric_in, set_local_preference_in, set_metric_in, set_weight_in, set_prepend_in, origin_in, set_origin_in, set_next_hop_in, no_communities_in, some_communities_in, set_community_in, delete_communities_in, target_in, continue_in, description_in, match_line_in, set_value_in, set_list_in, line_in}
+use Rattle.ios_reader.specs.Spelling.{IsListWord, IsPathListWord, IsCommunityWord, IsOriginWord, AreLists, ArePathLists, AreNumbers, AreCommunities, SpellOption, SpellCommunityMatch, SpellCommunities, SpellNone, SpellLine}
 use Rattle.ios_reader.specs.declared.item.CommunitySetting.{CommunitySetting}
 use Rattle.ios_reader.specs.declared.item.CommunityMatch.{CommunityMatch}
 use Rattle.ios_reader.specs.declared.item.PrefixMatch.{PrefixMatch}
+use Rattle.ios_reader.specs.declared.item.PathMatch.{PathMatch}
 use Rattle.ios_reader.specs.declared.item.MapLine.{MapLine}
-use Rattle.ios_reader.specs.declared.item.MapLine.TheVariants.{MatchPrefix, MatchNextHop, MatchCommunity, MatchMetric, SetLocalPreference, SetMetric, SetWeight, SetPrepend, SetOrigin, SetNextHop, SetCommunity, DeleteCommunities, Continue, Description}
+use Rattle.ios_reader.specs.declared.item.MapLine.TheVariants.{MatchPrefix, MatchNextHop, MatchCommunity, MatchPath, MatchMetric, SetLocalPreference, SetMetric, SetWeight, SetPrepend, SetOrigin, SetNextHop, SetCommunity, DeleteCommunities, Continue, Description}
 use Rattle.ios_reader.proofs.WordsSpelled.{same_bytes, list_spelled, community_word_spelled}
 use Rattle.ios_reader.proofs.CommunitiesSpelled.{some_are}
+use Rattle.ios_reader.proofs.PathsSpelled.{path_list_spelled}
 use Rattle.ios_reader.proofs.OptionsSpelled.{option_spelled}
 
 some_lists : (ws lists : List (List ℕ)) → AreLists ws lists → some_each list_in ws ≡ Some lists
@@ -47,12 +49,16 @@ unfolding line_in match_line_in match_prefix_in match_next_hop_in match_communit
 match_community rest m h = rw (option_spelled (codes "exact-match") rest h.names m.exact h.lists.some h.option) (rw (some_lists h.names m.lists h.lists) refl)
 
 match_metric : (numbers : List (List ℕ)) (ns : List ℕ) → AreNumbers numbers ns → line_in (codes "match" ∷ codes "metric" ∷ numbers) ≡ Some (MatchMetric ns)
-unfolding line_in match_line_in match_prefix_in match_next_hop_in match_community_in match_metric_in after
+unfolding line_in match_line_in match_prefix_in match_next_hop_in match_community_in match_path_in match_metric_in after
 match_metric numbers ns h = rw (some_numbers numbers ns h) refl
+
+match_path : (numbers : List (List ℕ)) (m : PathMatch) → ArePathLists numbers m.lists → line_in (codes "match" ∷ codes "as-path" ∷ numbers) ≡ Some (MatchPath m)
+unfolding line_in match_line_in match_prefix_in match_next_hop_in match_community_in match_path_in after
+match_path numbers m h = rw (some_are path_list_in IsPathListWord path_list_spelled numbers m.lists h) refl
 
 -- no line that tests starts with `set`
 set_tests_nothing : (ws : List (List ℕ)) → match_line_in (codes "set" ∷ ws) ≡ None
-unfolding match_line_in match_prefix_in match_next_hop_in match_community_in match_metric_in after
+unfolding match_line_in match_prefix_in match_next_hop_in match_community_in match_path_in match_metric_in after
 set_tests_nothing ws = refl
 
 -- a line that starts with `set` sets
@@ -147,14 +153,14 @@ delete_communities name list h = set_list_line (codes "comm-list" ∷ name ∷ c
 
 -- no line that tests or sets starts with `continue`
 continue_line : (ws : List (List ℕ)) (l : MapLine) → target_in ws ≡ Some l → line_in (codes "continue" ∷ ws) ≡ Some l
-unfolding line_in match_line_in match_prefix_in match_next_hop_in match_community_in match_metric_in set_value_in set_local_preference_in set_metric_in set_weight_in set_origin_in set_next_hop_in set_list_in set_prepend_in set_community_in delete_communities_in continue_in after
+unfolding line_in match_line_in match_prefix_in match_next_hop_in match_community_in match_path_in match_metric_in set_value_in set_local_preference_in set_metric_in set_weight_in set_origin_in set_next_hop_in set_list_in set_prepend_in set_community_in delete_communities_in continue_in after
 continue_line ws l e = rw e refl
 
 continue_at : (n : ℕ) → n ≤ 2 ^ 64 - 1 → line_in (codes "continue" ∷ decimal n ∷ []) ≡ Some (Continue (Some n))
 continue_at n h = continue_line (decimal n ∷ []) (Continue (Some n)) (rw (number_in_spelled (2 ^ 64 - 1) n h (omega (arith, h))) refl)
 
 description : (rest : List (List ℕ)) → line_in (codes "description" ∷ rest) ≡ Some Description
-unfolding line_in match_line_in match_prefix_in match_next_hop_in match_community_in match_metric_in set_value_in set_local_preference_in set_metric_in set_weight_in set_origin_in set_next_hop_in set_list_in set_prepend_in set_community_in delete_communities_in continue_in description_in after
+unfolding line_in match_line_in match_prefix_in match_next_hop_in match_community_in match_path_in match_metric_in set_value_in set_local_preference_in set_metric_in set_weight_in set_origin_in set_next_hop_in set_list_in set_prepend_in set_community_in delete_communities_in continue_in description_in after
 description rest = refl
 
 -- a line that is spelled is found
@@ -165,6 +171,7 @@ pub line_spelled : (ws : List (List ℕ)) (l : MapLine) → SpellLine ws l → l
 line_spelled ws (MatchPrefix m) (names, words, family, h) = by_words ws _ (MatchPrefix m) words (match_prefix names m family h)
 line_spelled ws (MatchNextHop m) (names, words, family, h) = by_words ws _ (MatchNextHop m) words (match_next_hop names m family h)
 line_spelled ws (MatchCommunity m) (rest, words, h) = by_words ws _ (MatchCommunity m) words (match_community rest m h)
+line_spelled ws (MatchPath m) (numbers, words, h) = by_words ws _ (MatchPath m) words (match_path numbers m h)
 line_spelled ws (MatchMetric ns) (numbers, words, h) = by_words ws _ (MatchMetric ns) words (match_metric numbers ns h)
 line_spelled ws (SetLocalPreference n) (words, h) = by_words ws _ (SetLocalPreference n) words (set_local_preference n h)
 line_spelled ws (SetMetric n) (words, h) = by_words ws _ (SetMetric n) words (set_metric n h)

@@ -10,13 +10,14 @@ use Rattle.route_types.specs.declared.address.Family.TheVariants.{V4}
 use Rattle.route_types.proofs.Numbers.{bind_found, some_is}
 use Rattle.policy_text.specs.Phrases.{after, only, some_each}
 use Rattle.policy_text.proofs.Phrases.{when_found, after_found, only_found, number_found, address_found}
-use Rattle.ios_reader.specs.Names.{list_in, community_word_in}
-use Rattle.ios_reader.specs.Forms.{option_in, match_prefix_in, match_next_hop_in, match_community_in, match_metric_in, set_local_preference_in, set_metric_in, set_weight_in, set_prepend_in, origin_in, set_origin_in, set_next_hop_in, no_communities_in, some_communities_in, set_community_in, deleted_list_in, delete_communities_in, target_in, continue_in, description_in, match_line_in, set_value_in, set_list_in, line_in}
-use Rattle.ios_reader.specs.Spelling.{IsListWord, IsCommunityWord, IsOriginWord, AreLists, AreNumbers, AreCommunities, SpellLine}
+use Rattle.ios_reader.specs.Names.{list_in, path_list_in, community_word_in}
+use Rattle.ios_reader.specs.Forms.{option_in, match_prefix_in, match_next_hop_in, match_community_in, match_path_in, match_metric_in, set_local_preference_in, set_metric_in, set_weight_in, set_prepend_in, origin_in, set_origin_in, set_next_hop_in, no_communities_in, some_communities_in, set_community_in, deleted_list_in, delete_communities_in, target_in, continue_in, description_in, match_line_in, set_value_in, set_list_in, line_in}
+use Rattle.ios_reader.specs.Spelling.{IsListWord, IsPathListWord, IsCommunityWord, IsOriginWord, AreLists, AreNumbers, AreCommunities, SpellLine}
 use Rattle.ios_reader.specs.declared.item.MapLine.{MapLine}
-use Rattle.ios_reader.specs.declared.item.MapLine.TheVariants.{MatchPrefix, MatchNextHop, MatchMetric, SetLocalPreference, SetMetric, SetWeight, SetPrepend, SetOrigin, SetNextHop, SetCommunity, DeleteCommunities, Continue, Description}
+use Rattle.ios_reader.specs.declared.item.MapLine.TheVariants.{MatchPrefix, MatchNextHop, MatchPath, MatchMetric, SetLocalPreference, SetMetric, SetWeight, SetPrepend, SetOrigin, SetNextHop, SetCommunity, DeleteCommunities, Continue, Description}
 use Rattle.ios_reader.proofs.WordsSpelled.{same_bytes, first_found, list_found, community_word_found}
 use Rattle.ios_reader.proofs.CommunitiesSpelled.{are_some}
+use Rattle.ios_reader.proofs.PathsSpelled.{path_list_found}
 use Rattle.ios_reader.proofs.OptionsSpelled.{option_found}
 use Rattle.std.proofs.lemmas.Bool.{eqb-true}
 
@@ -94,6 +95,12 @@ match_community_found ws l e =
     let lists = bind_found (some_each list_in o.0) _ l rest.2 in
     subst (SpellLine ws) (some_is _ l lists.2) (rest.0, after_found keys ws rest.0 rest.1, record { names = o.0; option = option_found (codes "exact-match") rest.0; lists = are_lists o.0 lists.0 lists.1 })
 
+match_path_found : (ws : List (List ℕ)) (l : MapLine) → match_path_in ws ≡ Some l → SpellLine ws l
+unfolding match_path_in
+match_path_found ws l e =
+    let h = some_found (codes "match" ∷ codes "as-path" ∷ []) path_list_in (λ lists. MatchPath (record { lists = lists })) ws l e in
+    subst (SpellLine ws) h.made (h.rest, h.words, are_some path_list_in IsPathListWord path_list_found h.rest h.values h.found)
+
 match_metric_found : (ws : List (List ℕ)) (l : MapLine) → match_metric_in ws ≡ Some l → SpellLine ws l
 unfolding match_metric_in
 match_metric_found ws l e =
@@ -105,7 +112,8 @@ unfolding match_line_in
 match_line_found ws l e =
     first_found (match_prefix_in ws) _ l (SpellLine ws l) (match_prefix_found ws l)
     (λ f. first_found (match_next_hop_in ws) _ l (SpellLine ws l) (match_next_hop_found ws l)
-    (λ g. first_found (match_community_in ws) (match_metric_in ws) l (SpellLine ws l) (match_community_found ws l) (match_metric_found ws l) g) f) e
+    (λ g. first_found (match_community_in ws) _ l (SpellLine ws l) (match_community_found ws l)
+    (λ h. first_found (match_path_in ws) (match_metric_in ws) l (SpellLine ws l) (match_path_found ws l) (match_metric_found ws l) h) g) f) e
 
 -- ---- lines that set a single value
 

@@ -16,7 +16,7 @@ use Rattle.ios_reader.specs.Numbering.{greatest_in, greatest_of, numbered_by, Na
 use Rattle.ios_reader.specs.Spelling.{Spell, SpellPrefixEntry}
 use Rattle.ios_reader.specs.Tree.{greater, greatest_with, greatest_number, is_of_list, family_of, entry_with_number, numbered, numbered_item, numbered_from, known_form, form_of, name_under}
 use Rattle.ios_reader.specs.declared.item.IosForm.{IosForm}
-use Rattle.ios_reader.specs.declared.item.IosForm.TheVariants.{PrefixEntry, PrefixDescription, CommunityEntry, MapHeader, Line, Other}
+use Rattle.ios_reader.specs.declared.item.IosForm.TheVariants.{PrefixEntry, PrefixDescription, CommunityEntry, PathEntry, MapHeader, Line, Other}
 use Rattle.ios_reader.specs.declared.item.IosItem.{IosItem}
 use Rattle.ios_reader.specs.declared.item.ItemSort.{ItemSort}
 use Rattle.ios_reader.specs.declared.item.PrefixListEntry.{PrefixListEntry}
@@ -70,6 +70,7 @@ abbrev number_in_list : Family → List ℕ → IosForm → Option ℕ
 number_in_list family list (PrefixEntry e) = entry_number (is_of_list family list e) e.number
 number_in_list family list (PrefixDescription d) = None
 number_in_list family list (CommunityEntry e) = None
+number_in_list family list (PathEntry e) = None
 number_in_list family list (MapHeader h) = None
 number_in_list family list (Line l) = None
 number_in_list family list (Other o) = None
@@ -86,6 +87,7 @@ form_raises : (family : Family) (list : List ℕ) (form : IosForm) (n : ℕ) →
 form_raises family list (PrefixEntry e) n = entry_raises (is_of_list family list e) e.number n
 form_raises family list (PrefixDescription d) n = refl
 form_raises family list (CommunityEntry e) n = refl
+form_raises family list (PathEntry e) n = refl
 form_raises family list (MapHeader h) n = refl
 form_raises family list (Line l) n = refl
 form_raises family list (Other o) n = refl
@@ -118,6 +120,7 @@ by_told : (g : Greatest) (items : List IosItem) (form : IosForm) → Tells g ite
 by_told g items (PrefixEntry e) told = ap (λ (n : ℕ). elim e.has_seq [ true ↦ PrefixEntry e | false ↦ entry_with_number e (n + 5) ]) (told (family_of e) e.list)
 by_told g items (PrefixDescription d) told = refl
 by_told g items (CommunityEntry e) told = refl
+by_told g items (PathEntry e) told = refl
 by_told g items (MapHeader h) told = refl
 by_told g items (Line l) told = refl
 by_told g items (Other o) told = refl
@@ -139,6 +142,7 @@ spelled_names : (ws : List (List ℕ)) (form : IosForm) → Spell ws form → Na
 spelled_names ws (PrefixEntry e) h = third_word ws e h
 spelled_names ws (PrefixDescription d) h = tt
 spelled_names ws (CommunityEntry e) h = tt
+spelled_names ws (PathEntry e) h = tt
 spelled_names ws (MapHeader m) h = tt
 spelled_names ws (Line l) h = tt
 spelled_names ws (Other o) h = tt

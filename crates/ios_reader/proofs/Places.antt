@@ -11,11 +11,11 @@ use Rattle.ios_reader.specs.Entries.{onto_lines}
 use Rattle.ios_reader.specs.Lines.{kind_of}
 use Rattle.ios_reader.specs.Profile.{is_inside, open_header, open_lines, header_in, is_prefix_entry, is_map_header, is_community_entry}
 use Rattle.ios_reader.specs.declared.item.IosForm.{IosForm}
-use Rattle.ios_reader.specs.declared.item.IosForm.TheVariants.{PrefixEntry, PrefixDescription, CommunityEntry, MapHeader, Line, Other}
+use Rattle.ios_reader.specs.declared.item.IosForm.TheVariants.{PrefixEntry, PrefixDescription, CommunityEntry, PathEntry, MapHeader, Line, Other}
 use Rattle.ios_reader.specs.declared.item.IosItem.{IosItem}
 use Rattle.ios_reader.specs.declared.item.MapHeader.{MapHeader as Header}
 use Rattle.ios_reader.specs.declared.item.MapLine.{MapLine}
-use Rattle.ios_reader.specs.declared.item.MapLine.TheVariants.{MatchPrefix, MatchNextHop, MatchCommunity, MatchMetric, SetLocalPreference, SetMetric, SetWeight, SetPrepend, SetOrigin, SetNextHop, SetCommunity, DeleteCommunities, Continue, Description}
+use Rattle.ios_reader.specs.declared.item.MapLine.TheVariants.{MatchPrefix, MatchNextHop, MatchCommunity, MatchPath, MatchMetric, SetLocalPreference, SetMetric, SetWeight, SetPrepend, SetOrigin, SetNextHop, SetCommunity, DeleteCommunities, Continue, Description}
 use Rattle.ios_reader.specs.Walk.{head_of, has_kind, kinds_with, no_kinds, place_behind, IsBehind}
 use Rattle.ios_reader.specs.declared.place.Place.{Place}
 use Rattle.ios_reader.proofs.Booleans.{any_more, or_none, or_true}
@@ -87,10 +87,11 @@ flag_more xs m k h =
       ]
     ]
 
-kind_within : (line : MapLine) → kind_of line < 14
+kind_within : (line : MapLine) → kind_of line < 15
 kind_within (MatchPrefix m) = omega arith
 kind_within (MatchNextHop m) = omega arith
 kind_within (MatchCommunity m) = omega arith
+kind_within (MatchPath m) = omega arith
 kind_within (MatchMetric ns) = omega arith
 kind_within (SetLocalPreference n) = omega arith
 kind_within (SetMetric n) = omega arith
@@ -107,6 +108,7 @@ no_kind : (line : MapLine) → has_kind no_kinds line ≡ false
 no_kind (MatchPrefix m) = refl
 no_kind (MatchNextHop m) = refl
 no_kind (MatchCommunity m) = refl
+no_kind (MatchPath m) = refl
 no_kind (MatchMetric ns) = refl
 no_kind (SetLocalPreference n) = refl
 no_kind (SetMetric n) = refl
@@ -123,10 +125,11 @@ no_kind Description = refl
 abbrev HasKind : MapLine → List MapLine → Bool
 HasKind line lines = list_any (λ l. kind_of l == kind_of line) lines
 
-kinds_more : (kinds : List Bool) (lines : List MapLine) (form : IosForm) → length kinds ≡ 14 → ((line : MapLine) → has_kind kinds line ≡ HasKind line lines) → (line : MapLine) → has_kind (kinds_with kinds form) line ≡ HasKind line (lines ++ onto_lines form [])
+kinds_more : (kinds : List Bool) (lines : List MapLine) (form : IosForm) → length kinds ≡ 15 → ((line : MapLine) → has_kind kinds line ≡ HasKind line lines) → (line : MapLine) → has_kind (kinds_with kinds form) line ≡ HasKind line (lines ++ onto_lines form [])
 kinds_more kinds lines (PrefixEntry e) len are line = are line ∙ ap (HasKind line) (sym (append-nil lines))
 kinds_more kinds lines (PrefixDescription d) len are line = are line ∙ ap (HasKind line) (sym (append-nil lines))
 kinds_more kinds lines (CommunityEntry e) len are line = are line ∙ ap (HasKind line) (sym (append-nil lines))
+kinds_more kinds lines (PathEntry e) len are line = are line ∙ ap (HasKind line) (sym (append-nil lines))
 kinds_more kinds lines (MapHeader h) len are line = are line ∙ ap (HasKind line) (sym (append-nil lines))
 kinds_more kinds lines (Line l) len are line =
     any_more (λ k. kind_of k == kind_of line) lines l (has_kind kinds line) (has_kind (kinds_with kinds (Line l)) line) (are line) (flag_more kinds (kind_of l) (kind_of line) (omega (arith, kind_within l)))
@@ -136,6 +139,7 @@ kinds_with_len : (kinds : List Bool) (form : IosForm) → length (kinds_with kin
 kinds_with_len kinds (PrefixEntry e) = refl
 kinds_with_len kinds (PrefixDescription d) = refl
 kinds_with_len kinds (CommunityEntry e) = refl
+kinds_with_len kinds (PathEntry e) = refl
 kinds_with_len kinds (MapHeader h) = refl
 kinds_with_len kinds (Line l) = length-set kinds (kind_of l) true
 kinds_with_len kinds (Other o) = refl

@@ -10,7 +10,7 @@ use Rattle.ios_reader.specs.declared.item.ItemSort.{ItemSort}
 use Rattle.ios_reader.specs.declared.item.ItemSort.TheVariants.{PrefixList, CommunityList, PathList, Map}
 use Rattle.ios_reader.specs.declared.item.ItemSort.TheVariants.{Line as LineSort}
 use Rattle.ios_reader.specs.declared.item.IosForm.{IosForm}
-use Rattle.ios_reader.specs.declared.item.IosForm.TheVariants.{PrefixEntry, PrefixDescription, CommunityEntry, MapHeader, Line, Other}
+use Rattle.ios_reader.specs.declared.item.IosForm.TheVariants.{PrefixEntry, PrefixDescription, CommunityEntry, PathEntry, MapHeader, Line, Other}
 use Rattle.ios_reader.specs.declared.item.IosItem.{IosItem}
 use Rattle.ios_reader.specs.declared.item.MapLine.{MapLine}
 use Rattle.ios_reader.specs.Facts.{sets_below}
@@ -65,6 +65,7 @@ step_at : (name : List ℕ) (test : MapLine → Bool) (n : ℕ) (a : Bool) (entr
 step_at name test n a entry (PrefixEntry p) s is = ends_test a (is_above entry.number n) entry.continues entry.sets false (list_any (sets_below test n) (entries_of name is))
 step_at name test n a entry (PrefixDescription p) s is = ends_test a (is_above entry.number n) entry.continues entry.sets false (list_any (sets_below test n) (entries_of name is))
 step_at name test n a entry (CommunityEntry c) s is = ends_test a (is_above entry.number n) entry.continues entry.sets false (list_any (sets_below test n) (entries_of name is))
+step_at name test n a entry (PathEntry c) s is = ends_test a (is_above entry.number n) entry.continues entry.sets false (list_any (sets_below test n) (entries_of name is))
 step_at name test n a entry (MapHeader h) s is =
     ends_test a (is_above entry.number n) entry.continues entry.sets (is_above (head_number name (MapHeader h)) n && (list_any continues (lines_below is) && list_any test (lines_below is))) (list_any (sets_below test n) (entries_of name is))
     ∙ ap (λ (b : Bool). a || ((is_above entry.number n && ((entry.continues || false) && (entry.sets || false))) || b)) (header_test test n h.number h.permit (lines_below is) (entries_of name is) (bytes_eq name h.map))

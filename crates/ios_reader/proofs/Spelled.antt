@@ -7,13 +7,14 @@ use Rattle.ios_reader.specs.Sorts.{sort_of_form}
 use Rattle.ios_reader.specs.Spelling.{Spell, SpellLine}
 use Rattle.ios_reader.specs.Tree.{known_form}
 use Rattle.ios_reader.specs.declared.item.IosForm.{IosForm}
-use Rattle.ios_reader.specs.declared.item.IosForm.TheVariants.{PrefixEntry, PrefixDescription, CommunityEntry, MapHeader, Other}
+use Rattle.ios_reader.specs.declared.item.IosForm.TheVariants.{PrefixEntry, PrefixDescription, CommunityEntry, PathEntry, MapHeader, Other}
 use Rattle.ios_reader.specs.declared.item.IosForm.TheVariants.{Line as OfLine}
 use Rattle.ios_reader.specs.declared.item.ItemSort.{ItemSort}
 use Rattle.ios_reader.specs.declared.item.ItemSort.TheVariants.{PrefixList, CommunityList, PathList, Map, Line}
 use Rattle.ios_reader.specs.declared.item.MapLine.{MapLine}
 use Rattle.ios_reader.proofs.ListsSpelled.{prefix_list_found, prefix_entry_spelled, prefix_description_spelled, map_header_found, map_header_spelled}
 use Rattle.ios_reader.proofs.CommunitiesSpelled.{community_list_found, community_list_spelled}
+use Rattle.ios_reader.proofs.PathsSpelled.{path_entry_found, path_entry_spelled}
 use Rattle.ios_reader.proofs.LinesSpelled.{line_found}
 use Rattle.ios_reader.proofs.LinesFound.{line_spelled}
 
@@ -24,7 +25,7 @@ line_form_found ws form None found e = absurd cc
 pub is_spelled : (ws : List (List ℕ)) (form : IosForm) (sort : ItemSort) → known_form sort ws ≡ Some form → Spell ws form
 is_spelled ws form (PrefixList family) e = prefix_list_found ws form e
 is_spelled ws form CommunityList e = community_list_found ws form e
-is_spelled ws form PathList e = absurd cc
+is_spelled ws form PathList e = path_entry_found ws form e
 is_spelled ws form Map e = map_header_found ws form e
 is_spelled ws form Line e = line_form_found ws form (line_in ws) (line_found ws) e
 
@@ -32,6 +33,7 @@ pub is_found : (ws : List (List ℕ)) (form : IosForm) → Spell ws form → kno
 is_found ws (PrefixEntry e) h = prefix_entry_spelled ws e h
 is_found ws (PrefixDescription d) h = prefix_description_spelled ws d h
 is_found ws (CommunityEntry e) h = community_list_spelled ws e h
+is_found ws (PathEntry e) h = path_entry_spelled ws e h
 is_found ws (MapHeader m) h = map_header_spelled ws m h
 is_found ws (OfLine l) h = ap (λ (o : Option MapLine). option_map OfLine o) (line_spelled ws l h)
 is_found ws (Other o) h = absurd h

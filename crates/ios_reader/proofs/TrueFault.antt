@@ -11,11 +11,11 @@ use Rattle.ios_reader.specs.declared.item.ItemSort.{ItemSort}
 use Rattle.ios_reader.specs.declared.item.ItemSort.TheVariants.{PrefixList, CommunityList, PathList, Map}
 use Rattle.ios_reader.specs.declared.item.ItemSort.TheVariants.{Line as LineSort}
 use Rattle.ios_reader.specs.declared.item.IosForm.{IosForm}
-use Rattle.ios_reader.specs.declared.item.IosForm.TheVariants.{PrefixEntry, PrefixDescription, CommunityEntry, MapHeader, Line, Other}
+use Rattle.ios_reader.specs.declared.item.IosForm.TheVariants.{PrefixEntry, PrefixDescription, CommunityEntry, PathEntry, MapHeader, Line, Other}
 use Rattle.ios_reader.specs.declared.item.IosItem.{IosItem}
 use Rattle.ios_reader.specs.declared.item.MapHeader.{MapHeader as Header}
 use Rattle.ios_reader.specs.declared.item.MapLine.{MapLine}
-use Rattle.ios_reader.specs.declared.item.MapLine.TheVariants.{MatchPrefix, MatchNextHop, MatchCommunity, MatchMetric, SetLocalPreference, SetMetric, SetWeight, SetPrepend, SetOrigin, SetNextHop, SetCommunity, DeleteCommunities, Continue, Description}
+use Rattle.ios_reader.specs.declared.item.MapLine.TheVariants.{MatchPrefix, MatchNextHop, MatchCommunity, MatchPath, MatchMetric, SetLocalPreference, SetMetric, SetWeight, SetPrepend, SetOrigin, SetNextHop, SetCommunity, DeleteCommunities, Continue, Description}
 use Rattle.ios_reader.specs.declared.item.Forms.{Forms}
 use Rattle.ios_reader.specs.Facts.{facts_of, sets_below}
 use Rattle.ios_reader.specs.Given.{reached_given, lists_missing_given, target_missing_given, continues_back_given, is_unsettled_given, is_exact_expanded_given, entry_causes_given, line_cause_of, line_cause_given, line_fault_given, cause_of, fault_given}
@@ -34,6 +34,7 @@ reached_is : (name : List ℕ) (all before : List IosItem) (form : IosForm) (s :
 reached_is name all before (PrefixEntry e) s = refl
 reached_is name all before (PrefixDescription d) s = refl
 reached_is name all before (CommunityEntry e) s = refl
+reached_is name all before (PathEntry e) s = refl
 reached_is name all before (MapHeader h) s = refl
 reached_is name all before (Line l) s = refl
 reached_is name all before (Other o) s = other_reached name all before o.sort o.name s
@@ -44,6 +45,7 @@ lists_is : (name : List ℕ) (all : List IosItem) (line : MapLine) → lists_mis
 lists_is name all (MatchPrefix m) = refl
 lists_is name all (MatchNextHop m) = refl
 lists_is name all (MatchCommunity m) = refl
+lists_is name all (MatchPath m) = refl
 lists_is name all (MatchMetric ns) = refl
 lists_is name all (SetLocalPreference n) = refl
 lists_is name all (SetMetric n) = refl
@@ -60,6 +62,7 @@ exact_is : (name : List ℕ) (all : List IosItem) (line : MapLine) → is_exact_
 exact_is name all (MatchPrefix m) = refl
 exact_is name all (MatchNextHop m) = refl
 exact_is name all (MatchCommunity m) = refl
+exact_is name all (MatchPath m) = refl
 exact_is name all (MatchMetric ns) = refl
 exact_is name all (SetLocalPreference n) = refl
 exact_is name all (SetMetric n) = refl
@@ -98,6 +101,7 @@ unsettled_is : (name : List ℕ) (all : List IosItem) (h : Header) (line : MapLi
 unsettled_is name all h (MatchPrefix m) = never h.number (entries_of name all)
 unsettled_is name all h (MatchNextHop m) = refl
 unsettled_is name all h (MatchCommunity m) = refl
+unsettled_is name all h (MatchPath m) = refl
 unsettled_is name all h (MatchMetric ns) = refl
 unsettled_is name all h (SetLocalPreference n) = never h.number (entries_of name all)
 unsettled_is name all h (SetMetric n) = never h.number (entries_of name all)
@@ -130,6 +134,7 @@ line_fault_is : (name : List ℕ) (all before : List IosItem) (form : IosForm) �
 line_fault_is name all before (PrefixEntry e) = refl
 line_fault_is name all before (PrefixDescription d) = refl
 line_fault_is name all before (CommunityEntry e) = refl
+line_fault_is name all before (PathEntry e) = refl
 line_fault_is name all before (MapHeader h) = refl
 line_fault_is name all before (Line l) = line_is name all before l
 line_fault_is name all before (Other o) = refl

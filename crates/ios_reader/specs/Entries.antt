@@ -1,7 +1,7 @@
 -- The entries of a route-map, each with the lines below its header.
 use Rattle.std.specs.Prelude.{ℕ, Bool, true, false, List, [], ◌∷◌, bytes_eq}
 use Rattle.ios_reader.specs.declared.item.IosForm.{IosForm}
-use Rattle.ios_reader.specs.declared.item.IosForm.TheVariants.{PrefixEntry, PrefixDescription, CommunityEntry, MapHeader, Line, Other}
+use Rattle.ios_reader.specs.declared.item.IosForm.TheVariants.{PrefixEntry, PrefixDescription, CommunityEntry, PathEntry, MapHeader, Line, Other}
 use Rattle.ios_reader.specs.declared.item.IosItem.{IosItem}
 use Rattle.ios_reader.specs.declared.item.MapLine.{MapLine}
 use Rattle.ios_reader.specs.Sorts.{is_line}
@@ -17,6 +17,7 @@ abbrev pub onto_lines : IosForm → List MapLine → List MapLine
 onto_lines (PrefixEntry e) rest = rest
 onto_lines (PrefixDescription d) rest = rest
 onto_lines (CommunityEntry e) rest = rest
+onto_lines (PathEntry e) rest = rest
 onto_lines (MapHeader h) rest = rest
 onto_lines (Line l) rest = l ∷ rest
 onto_lines (Other o) rest = rest
@@ -31,6 +32,7 @@ abbrev pub entry_from : List ℕ → IosForm → List MapLine → List Entry →
 entry_from name (PrefixEntry e) lines rest = rest
 entry_from name (PrefixDescription d) lines rest = rest
 entry_from name (CommunityEntry e) lines rest = rest
+entry_from name (PathEntry e) lines rest = rest
 entry_from name (MapHeader h) lines rest = elim (bytes_eq name h.map) [ true ↦ record { number = h.number; permit = h.permit; lines = lines } ∷ rest | false ↦ rest ]
 entry_from name (Line l) lines rest = rest
 entry_from name (Other o) lines rest = rest

@@ -2,7 +2,7 @@
 use Rattle.std.specs.Prelude.{ℕ, Bool, ◌&&◌, not, List}
 use Rattle.policy_text.specs.Names.{is_named}
 use Rattle.route_types.specs.declared.address.Family.{Family}
-use Rattle.ios_reader.specs.Sorts.{sort_of_form, name_of_form, is_header_sort, is_prefix_sort, is_community_sort, is_description}
+use Rattle.ios_reader.specs.Sorts.{sort_of_form, name_of_form, is_header_sort, is_prefix_sort, is_community_sort, is_path_sort, is_description}
 use Rattle.ios_reader.specs.declared.item.IosForm.{IosForm}
 
 -- the form heads an entry of the map of this name
@@ -16,3 +16,7 @@ prefix_list_form family list form = is_prefix_sort family (sort_of_form form) &&
 -- the form is of this community list
 abbrev pub community_list_form : List ℕ → IosForm → Bool
 community_list_form list form = is_community_sort (sort_of_form form) && is_named list (name_of_form form)
+
+-- the form is of this path list
+abbrev pub path_list_form : List ℕ → IosForm → Bool
+path_list_form list form = is_path_sort (sort_of_form form) && is_named list (name_of_form form)

@@ -8,13 +8,14 @@ use Rattle.prefix_sets.specs.declared.list.PrefixEntry.{PrefixEntry as Entry}
 use Rattle.policy_text.specs.Names.{is_name, first_some}
 use Rattle.policy_text.specs.Bounds.{bounds_in}
 use Rattle.policy_text.specs.Phrases.{after, only, some_each}
-use Rattle.ios_reader.specs.Names.{list_in, permit_in, community_word_in, shape_in}
+use Rattle.aspath_text.specs.IosRead.{ios_pattern_in}
+use Rattle.ios_reader.specs.Names.{list_in, path_list_in, permit_in, community_word_in, shape_in}
 use Rattle.ios_reader.specs.declared.item.IosForm.{IosForm}
-use Rattle.ios_reader.specs.declared.item.IosForm.TheVariants.{PrefixEntry, PrefixDescription, CommunityEntry, MapHeader}
+use Rattle.ios_reader.specs.declared.item.IosForm.TheVariants.{PrefixEntry, PrefixDescription, CommunityEntry, PathEntry, MapHeader}
 use Rattle.ios_reader.specs.declared.item.CommunityShape.{CommunityShape}
 use Rattle.ios_reader.specs.declared.item.CommunityShape.TheVariants.{Standard, Expanded}
 use Rattle.ios_reader.specs.declared.item.MapLine.{MapLine}
-use Rattle.ios_reader.specs.declared.item.MapLine.TheVariants.{MatchPrefix, MatchNextHop, MatchCommunity, MatchMetric, SetLocalPreference, SetMetric, SetWeight, SetPrepend, SetOrigin, SetNextHop, SetCommunity, DeleteCommunities, Continue, Description}
+use Rattle.ios_reader.specs.declared.item.MapLine.TheVariants.{MatchPrefix, MatchNextHop, MatchCommunity, MatchPath, MatchMetric, SetLocalPreference, SetMetric, SetWeight, SetPrepend, SetOrigin, SetNextHop, SetCommunity, DeleteCommunities, Continue, Description}
 
 -- ---- prefix lists
 
@@ -27,11 +28,12 @@ seq_in (w ∷ s ∷ ws) = elim (bytes_eq w (codes "seq")) [
   | false ↦ Some (None, w ∷ s ∷ ws)
 ]
 
--- whether a number is written, and the number, 0 for one that isn't
+-- whether a number is written
 abbrev pub is_written : Option ℕ → Bool
 is_written None = false
 is_written (Some n) = true
 
+-- the number, 0 for one that isn't written
 abbrev pub written_number : Option ℕ → ℕ
 written_number None = 0
 written_number (Some n) = n
@@ -108,6 +110,21 @@ listed_community_in (w ∷ ws) = elim (bytes_eq w (codes "standard")) [
 unfoldable pub community_list_in : List (List ℕ) → Option IosForm
 community_list_in ws = after (codes "ip" ∷ codes "community-list" ∷ []) ws >>= λ rest. listed_community_in rest
 
+-- ---- path lists
+
+-- `n permit|deny X` behind the first words
+abbrev pub listed_path_in : List (List ℕ) → Option IosForm
+listed_path_in (name ∷ action ∷ word ∷ []) = do
+  list ← path_list_in name
+  permit ← permit_in action
+  pattern ← ios_pattern_in word
+  Some (PathEntry (record { list = list; permit = permit; pattern = pattern }))
+listed_path_in _ = None
+
+-- `ip as-path access-list n permit|deny X`
+unfoldable pub path_entry_in : List (List ℕ) → Option IosForm
+path_entry_in ws = after (codes "ip" ∷ codes "as-path" ∷ codes "access-list" ∷ []) ws >>= λ rest. listed_path_in rest
+
 -- ---- route-maps
 
 -- `route-map N permit|deny S`
@@ -145,6 +162,13 @@ match_community_in ws = do
   rest ← after (codes "match" ∷ codes "community" ∷ []) ws
   lists ← some_each list_in (option_in (codes "exact-match") rest).0
   Some (MatchCommunity (record { lists = lists; exact = (option_in (codes "exact-match") rest).1 }))
+
+-- `match as-path n..`
+unfoldable pub match_path_in : List (List ℕ) → Option MapLine
+match_path_in ws = do
+  numbers ← after (codes "match" ∷ codes "as-path" ∷ []) ws
+  lists ← some_each path_list_in numbers
+  Some (MatchPath (record { lists = lists }))
 
 -- `match metric n..`
 unfoldable pub match_metric_in : List (List ℕ) → Option MapLine
@@ -243,7 +267,8 @@ description_in ws = after (codes "description" ∷ []) ws >>= λ rest. Some Desc
 
 -- a line that tests
 unfoldable pub match_line_in : List (List ℕ) → Option MapLine
-match_line_in ws = first_some (match_prefix_in ws) (first_some (match_next_hop_in ws) (first_some (match_community_in ws) (match_metric_in ws)))
+match_line_in ws =
+    first_some (match_prefix_in ws) (first_some (match_next_hop_in ws) (first_some (match_community_in ws) (first_some (match_path_in ws) (match_metric_in ws))))
 
 -- a line that sets a single value
 unfoldable pub set_value_in : List (List ℕ) → Option MapLine

@@ -14,22 +14,23 @@ use Rattle.ios_reader.specs.declared.item.ItemSort.{ItemSort}
 use Rattle.ios_reader.specs.declared.item.ItemSort.TheVariants.{PrefixList, CommunityList, PathList, Map}
 use Rattle.ios_reader.specs.declared.item.ItemSort.TheVariants.{Line as LineSort}
 use Rattle.ios_reader.specs.declared.item.IosForm.{IosForm}
-use Rattle.ios_reader.specs.declared.item.IosForm.TheVariants.{PrefixEntry, PrefixDescription, CommunityEntry, MapHeader, Line, Other}
+use Rattle.ios_reader.specs.declared.item.IosForm.TheVariants.{PrefixEntry, PrefixDescription, CommunityEntry, PathEntry, MapHeader, Line, Other}
 use Rattle.ios_reader.specs.declared.item.MapLine.{MapLine}
-use Rattle.ios_reader.specs.declared.item.MapLine.TheVariants.{MatchPrefix, MatchNextHop, MatchCommunity, MatchMetric, DeleteCommunities}
+use Rattle.ios_reader.specs.declared.item.MapLine.TheVariants.{MatchPrefix, MatchNextHop, MatchCommunity, MatchPath, MatchMetric, DeleteCommunities}
 use Rattle.ios_reader.specs.declared.item.Forms.{Forms}
 use Rattle.ios_reader.specs.Facts.{Facts}
 use Rattle.ios_reader.specs.declared.place.EntryHead.{EntryHead}
 use Rattle.ios_reader.specs.declared.faults.EntryFaults.{EntryFaults}
 
--- an item of this form is reached, by its sort and its name
+-- an item of this sort and this name is reached
 abbrev pub reached_by : List ℕ → Facts → Bool → Option (List ℕ) → ItemSort → Bool
 reached_by name facts inside under (PrefixList family) = passes (λ list. facts.names_prefix family list) under
 reached_by name facts inside under CommunityList = passes (λ list. facts.names_community list) under
-reached_by name facts inside under PathList = false
+reached_by name facts inside under PathList = passes (λ list. facts.names_path list) under
 reached_by name facts inside under Map = is_named name under
 reached_by name facts inside under LineSort = inside
 
+-- an item of this form is reached
 abbrev pub reached_given : List ℕ → Facts → Bool → IosForm → Bool
 reached_given name facts inside form = reached_by name facts inside (name_of_form form) (sort_of_form form)
 
@@ -38,14 +39,16 @@ abbrev pub lists_missing_given : Facts → MapLine → Bool
 lists_missing_given facts (MatchPrefix m) = list_any (λ list. not (facts.prefix_list m.family list)) m.lists
 lists_missing_given facts (MatchNextHop m) = list_any (λ list. not (facts.prefix_list m.family list)) m.lists
 lists_missing_given facts (MatchCommunity m) = list_any (λ list. not (facts.community_list list)) m.lists
+lists_missing_given facts (MatchPath m) = list_any (λ list. not (facts.path_list list)) m.lists
 lists_missing_given facts (DeleteCommunities list) = not (facts.community_list list)
 lists_missing_given facts _ = false
 
--- the run is to go on at an entry above that isn't there, or at one that isn't above
+-- the run is to go on at an entry above that isn't there
 abbrev pub target_missing_given : Facts → EntryHead → Option ℕ → Bool
 target_missing_given facts h None = false
 target_missing_given facts h (Some s) = nat_lt h.number s && not (facts.is_number s)
 
+-- the run is to go on at an entry that isn't above
 abbrev pub continues_back_given : EntryHead → Option ℕ → Bool
 continues_back_given h None = false
 continues_back_given h (Some s) = nat_le s h.number
@@ -55,6 +58,7 @@ abbrev pub is_unsettled_given : Facts → EntryHead → MapLine → Bool
 is_unsettled_given facts h (MatchMetric ns) = facts.med h.number
 is_unsettled_given facts h (MatchNextHop m) = facts.next_hop h.number
 is_unsettled_given facts h (MatchCommunity m) = facts.communities h.number
+is_unsettled_given facts h (MatchPath m) = facts.path h.number
 is_unsettled_given facts h _ = false
 
 -- `exact-match` stands with an expanded list
@@ -87,10 +91,12 @@ abbrev pub line_cause_given : Facts → Option EntryHead → (MapLine → Bool) 
 line_cause_given facts head kinds line =
     line_cause_of (lists_missing_given facts line) (not (is_description_line line) && kinds line) (entry_causes_given facts head line) (is_exact_expanded_given facts line)
 
+-- the fault of a form as a line; one that is no line has none
 abbrev pub line_fault_given : Facts → Option EntryHead → (MapLine → Bool) → IosForm → Option Cause
 line_fault_given facts head kinds (PrefixEntry e) = None
 line_fault_given facts head kinds (PrefixDescription d) = None
 line_fault_given facts head kinds (CommunityEntry e) = None
+line_fault_given facts head kinds (PathEntry e) = None
 line_fault_given facts head kinds (MapHeader h) = None
 line_fault_given facts head kinds (Line l) = line_cause_given facts head kinds l
 line_fault_given facts head kinds (Other o) = None
@@ -105,6 +111,7 @@ abbrev pub second_sort_given : (List ℕ → Bool → Bool) → IosForm → Bool
 second_sort_given sorts (PrefixEntry e) = false
 second_sort_given sorts (PrefixDescription d) = false
 second_sort_given sorts (CommunityEntry e) = sorts e.list (not (is_expanded e.shape)) && not (sorts e.list (is_expanded e.shape))
+second_sort_given sorts (PathEntry e) = false
 second_sort_given sorts (MapHeader h) = false
 second_sort_given sorts (Line l) = false
 second_sort_given sorts (Other o) = false
@@ -114,6 +121,7 @@ abbrev pub repeats_given : (Family → List ℕ → ℕ → Bool) → (List ℕ 
 repeats_given entries headers (PrefixEntry e) = entries (family_of e) e.list e.number
 repeats_given entries headers (PrefixDescription d) = false
 repeats_given entries headers (CommunityEntry e) = false
+repeats_given entries headers (PathEntry e) = false
 repeats_given entries headers (MapHeader h) = headers h.map h.number
 repeats_given entries headers (Line l) = false
 repeats_given entries headers (Other o) = false

@@ -1,5 +1,5 @@
 -- The names of lists, and the words that are no plain numbers, prefixes or addresses.
-use Rattle.std.specs.Prelude.{ℕ, ◌-◌, ◌^◌, ◌==◌, ◌&&◌, Bool, true, false, List, [], ◌∷◌, Option, Some, codes, bytes_eq, length}
+use Rattle.std.specs.Prelude.{ℕ, ◌-◌, ◌^◌, ◌==◌, ◌&&◌, nat_le, Bool, true, false, List, [], ◌∷◌, Option, Some, codes, bytes_eq, length}
 use Rattle.std.specs.List.{list_all}
 use Rattle.route_types.specs.Words.{◌>>=◌, when, is_digit, number_in, parts_at, community_in}
 use Rattle.route_types.specs.Community.{RectParts}
@@ -19,6 +19,12 @@ list_name word = elim (list_all is_digit word) [ true ↦ without_zeros word | f
 -- the list that a word names
 abbrev pub list_in : List ℕ → Option (List ℕ)
 list_in word = when (is_name word) (list_name word)
+
+-- the path list that a word names: a number from 1 on, which is its name
+abbrev pub path_list_in : List ℕ → Option (List ℕ)
+path_list_in word = do
+  n ← number_in (2 ^ 64 - 1) word
+  when (nat_le 1 n) word
 
 -- `permit` or `deny`
 abbrev pub permit_in : List ℕ → Option Bool

@@ -9,18 +9,18 @@ use Rattle.policy_text.specs.declared.statement.Span.{Span}
 use Rattle.policy_text.specs.declared.fault.Cause.{Cause}
 use Rattle.policy_text.specs.declared.fault.Cause.TheVariants.{UnknownForm, DefinedTwice, SequenceTwice, Undefined, SameKindTwice, BackwardContinue, DenyContinue, UnsettledTest, ExactExpanded}
 use Rattle.ios_reader.specs.Tree.{is_of_list, family_of}
-use Rattle.ios_reader.specs.Sorts.{sort_of_form, name_of_form, is_line, heads, is_prefix_sort, is_community_sort, is_description, is_expanded}
+use Rattle.ios_reader.specs.Sorts.{sort_of_form, name_of_form, is_line, heads, is_prefix_sort, is_community_sort, is_path_sort, is_description, is_expanded}
 use Rattle.ios_reader.specs.Entries.{onto_lines, entries_of}
-use Rattle.ios_reader.specs.Lines.{names_prefix_list, names_community_list, kind_of, is_description_line, continues, target_of, sets_tested}
+use Rattle.ios_reader.specs.Lines.{names_prefix_list, names_community_list, names_path_list, kind_of, is_description_line, continues, target_of, sets_tested}
 use Rattle.ios_reader.specs.FirstForms.{is_first_form}
 use Rattle.ios_reader.specs.declared.item.ItemSort.{ItemSort}
 use Rattle.ios_reader.specs.declared.item.ItemSort.TheVariants.{PrefixList, CommunityList, PathList, Map}
 use Rattle.ios_reader.specs.declared.item.ItemSort.TheVariants.{Line as LineSort}
 use Rattle.ios_reader.specs.declared.item.IosForm.{IosForm}
-use Rattle.ios_reader.specs.declared.item.IosForm.TheVariants.{PrefixEntry, PrefixDescription, CommunityEntry, MapHeader, Line, Other}
+use Rattle.ios_reader.specs.declared.item.IosForm.TheVariants.{PrefixEntry, PrefixDescription, CommunityEntry, PathEntry, MapHeader, Line, Other}
 use Rattle.ios_reader.specs.declared.item.MapHeader.{MapHeader as Header}
 use Rattle.ios_reader.specs.declared.item.MapLine.{MapLine}
-use Rattle.ios_reader.specs.declared.item.MapLine.TheVariants.{MatchPrefix, MatchNextHop, MatchCommunity, DeleteCommunities}
+use Rattle.ios_reader.specs.declared.item.MapLine.TheVariants.{MatchPrefix, MatchNextHop, MatchCommunity, MatchPath, DeleteCommunities}
 use Rattle.ios_reader.specs.declared.item.Forms.{Forms}
 use Rattle.ios_reader.specs.declared.item.Forms.TheVariants.{All, First}
 use Rattle.ios_reader.specs.declared.item.IosItem.{IosItem}
@@ -40,6 +40,10 @@ of_prefix_list family list i = is_prefix_sort family (sort_of_form i.form) && is
 abbrev pub of_community_list : List ℕ → IosItem → Bool
 of_community_list list i = is_community_sort (sort_of_form i.form) && is_named list (name_of_form i.form)
 
+-- an item of this path list
+abbrev pub of_path_list : List ℕ → IosItem → Bool
+of_path_list list i = is_path_sort (sort_of_form i.form) && is_named list (name_of_form i.form)
+
 -- whether the entry that is open behind these items is one of the map; `inside` says it before them
 abbrev pub is_inside : List ℕ → Bool → List IosItem → Bool
 is_inside name inside [] = inside
@@ -58,26 +62,29 @@ abbrev pub passes : (List ℕ → Bool) → Option (List ℕ) → Bool
 passes test None = false
 passes test (Some name) = test name
 
--- the item is reached: it heads an entry of the map, is a line of one, or is of a list that such a line names
+-- an item of this sort is reached: it heads an entry of the map, is a line of one, or is of a list that such a line names
 abbrev pub reached_by_sort : List ℕ → List IosItem → List IosItem → IosItem → ItemSort → Bool
 reached_by_sort name all before i (PrefixList family) = passes (λ list. list_any (names_prefix_list family list) (lines_of name false all)) (name_of_form i.form)
 reached_by_sort name all before i CommunityList = passes (λ list. list_any (names_community_list list) (lines_of name false all)) (name_of_form i.form)
-reached_by_sort name all before i PathList = false
+reached_by_sort name all before i PathList = passes (λ list. list_any (names_path_list list) (lines_of name false all)) (name_of_form i.form)
 reached_by_sort name all before i Map = heads name i
 reached_by_sort name all before i LineSort = is_inside name false before
 
+-- the item is reached
 abbrev pub reached : List ℕ → List IosItem → List IosItem → IosItem → Bool
 reached name all before i = reached_by_sort name all before i (sort_of_form i.form)
 
--- the header of the entry that is open behind these items, if it has its form; `header` is the one before them
+-- the header that a form is, if it is one
 abbrev pub header_in : IosForm → Option Header
 header_in (PrefixEntry e) = None
 header_in (PrefixDescription d) = None
 header_in (CommunityEntry e) = None
+header_in (PathEntry e) = None
 header_in (MapHeader h) = Some h
 header_in (Line l) = None
 header_in (Other o) = None
 
+-- the header of the entry that is open behind these items, if it has its form; `header` is the one before them
 abbrev pub open_header : Option Header → List IosItem → Option Header
 open_header header [] = header
 open_header header (i ∷ is) = elim (is_line i) [ true ↦ open_header header is | false ↦ open_header (header_in i.form) is ]
@@ -94,6 +101,7 @@ abbrev pub has_no_form : IosForm → Bool
 has_no_form (PrefixEntry e) = false
 has_no_form (PrefixDescription d) = false
 has_no_form (CommunityEntry e) = false
+has_no_form (PathEntry e) = false
 has_no_form (MapHeader h) = false
 has_no_form (Line l) = false
 has_no_form (Other o) = true
@@ -103,6 +111,7 @@ abbrev pub is_community_entry : List ℕ → Bool → IosForm → Bool
 is_community_entry list expanded (PrefixEntry e) = false
 is_community_entry list expanded (PrefixDescription d) = false
 is_community_entry list expanded (CommunityEntry e) = bytes_eq list e.list && elim expanded [ true ↦ is_expanded e.shape | false ↦ not (is_expanded e.shape) ]
+is_community_entry list expanded (PathEntry e) = false
 is_community_entry list expanded (MapHeader h) = false
 is_community_entry list expanded (Line l) = false
 is_community_entry list expanded (Other o) = false
@@ -113,6 +122,7 @@ is_second_sort before (PrefixEntry e) = false
 is_second_sort before (PrefixDescription d) = false
 is_second_sort before (CommunityEntry e) =
     list_any (λ i. is_community_entry e.list (not (is_expanded e.shape)) i.form) before && not (list_any (λ i. is_community_entry e.list (is_expanded e.shape) i.form) before)
+is_second_sort before (PathEntry e) = false
 is_second_sort before (MapHeader h) = false
 is_second_sort before (Line l) = false
 is_second_sort before (Other o) = false
@@ -122,6 +132,7 @@ abbrev pub is_prefix_entry : Family → List ℕ → ℕ → IosForm → Bool
 is_prefix_entry family list number (PrefixEntry e) = is_of_list family list e && (number == e.number)
 is_prefix_entry family list number (PrefixDescription d) = false
 is_prefix_entry family list number (CommunityEntry e) = false
+is_prefix_entry family list number (PathEntry e) = false
 is_prefix_entry family list number (MapHeader h) = false
 is_prefix_entry family list number (Line l) = false
 is_prefix_entry family list number (Other o) = false
@@ -131,6 +142,7 @@ abbrev pub is_map_header : List ℕ → ℕ → IosForm → Bool
 is_map_header map number (PrefixEntry e) = false
 is_map_header map number (PrefixDescription d) = false
 is_map_header map number (CommunityEntry e) = false
+is_map_header map number (PathEntry e) = false
 is_map_header map number (MapHeader h) = bytes_eq map h.map && (number == h.number)
 is_map_header map number (Line l) = false
 is_map_header map number (Other o) = false
@@ -140,6 +152,7 @@ abbrev pub repeats_number : List IosItem → IosForm → Bool
 repeats_number before (PrefixEntry e) = list_any (λ i. is_prefix_entry (family_of e) e.list e.number i.form) before
 repeats_number before (PrefixDescription d) = false
 repeats_number before (CommunityEntry e) = false
+repeats_number before (PathEntry e) = false
 repeats_number before (MapHeader h) = list_any (λ i. is_map_header h.map h.number i.form) before
 repeats_number before (Line l) = false
 repeats_number before (Other o) = false
@@ -149,6 +162,7 @@ abbrev pub lists_missing : List IosItem → MapLine → Bool
 lists_missing all (MatchPrefix m) = list_any (λ list. not (list_any (of_prefix_list m.family list) all)) m.lists
 lists_missing all (MatchNextHop m) = list_any (λ list. not (list_any (of_prefix_list m.family list) all)) m.lists
 lists_missing all (MatchCommunity m) = list_any (λ list. not (list_any (of_community_list list) all)) m.lists
+lists_missing all (MatchPath m) = list_any (λ list. not (list_any (of_path_list list) all)) m.lists
 lists_missing all (DeleteCommunities list) = not (list_any (of_community_list list) all)
 lists_missing all _ = false
 
@@ -182,6 +196,7 @@ pub record EntryCauses : Type 0 where
   pub deny : Bool
   pub unsettled : Bool
 
+-- the causes of a line in the entry of this header; without a header of its form there are none
 abbrev pub entry_causes : List ℕ → List IosItem → Option Header → MapLine → EntryCauses
 entry_causes name all None line = record { target = false; back = false; deny = false; unsettled = false }
 entry_causes name all (Some h) line = record {
@@ -201,15 +216,17 @@ line_cause name all before line = let entry = entry_causes name all (open_header
     (first_some (when entry.unsettled UnsettledTest)
     (when (is_exact_expanded all line) ExactExpanded)))))
 
+-- the fault of a form as a line; one that is no line has none
 abbrev pub line_cause_in : List ℕ → List IosItem → List IosItem → IosForm → Option Cause
 line_cause_in name all before (PrefixEntry e) = None
 line_cause_in name all before (PrefixDescription d) = None
 line_cause_in name all before (CommunityEntry e) = None
+line_cause_in name all before (PathEntry e) = None
 line_cause_in name all before (MapHeader h) = None
 line_cause_in name all before (Line l) = line_cause name all before l
 line_cause_in name all before (Other o) = None
 
--- the fault of an item with these items before it, the causes in their order; `unknown` says which forms are unknown
+-- the cause of a form with these items before it, the causes in their order; `unknown` says which forms are unknown
 abbrev pub cause_at : (IosForm → Bool) → List ℕ → List IosItem → List IosItem → IosForm → Option Cause
 cause_at unknown name all before form =
     first_some (when (unknown form) UnknownForm)
@@ -217,6 +234,7 @@ cause_at unknown name all before form =
     (first_some (when (repeats_number before form) SequenceTwice)
     (line_cause_in name all before form)))
 
+-- the fault of an item with these items before it; one that isn't reached has none
 abbrev pub fault_at : (IosForm → Bool) → List ℕ → List IosItem → List IosItem → IosItem → Option Cause
 fault_at unknown name all before i = elim (reached name all before i) [ true ↦ cause_at unknown name all before i.form | false ↦ None ]
 

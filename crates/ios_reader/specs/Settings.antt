@@ -2,20 +2,21 @@
 use Rattle.std.specs.Prelude.{◌≡◌, ℕ, Bool, true, false, ◌&&◌, ◌||◌, nat_lt, List, Option, Some, None, bytes_eq}
 use Rattle.std.specs.List.{list_any}
 use Rattle.ios_reader.specs.Entries.{lines_below, entries_of}
-use Rattle.ios_reader.specs.Lines.{continues, sets_med, sets_next_hop, sets_communities}
+use Rattle.ios_reader.specs.Lines.{continues, sets_med, sets_path, sets_next_hop, sets_communities}
 use Rattle.ios_reader.specs.Sorts.{sort_of_form, is_line_sort}
 use Rattle.ios_reader.specs.declared.item.IosForm.{IosForm}
-use Rattle.ios_reader.specs.declared.item.IosForm.TheVariants.{PrefixEntry, PrefixDescription, CommunityEntry, MapHeader, Line, Other}
+use Rattle.ios_reader.specs.declared.item.IosForm.TheVariants.{PrefixEntry, PrefixDescription, CommunityEntry, PathEntry, MapHeader, Line, Other}
 use Rattle.ios_reader.specs.declared.item.IosItem.{IosItem}
 use Rattle.ios_reader.specs.declared.item.MapLine.{MapLine}
 use Rattle.ios_reader.specs.Facts.{sets_below}
 use Rattle.ios_reader.specs.declared.unsettled.Setting.{Setting}
-use Rattle.ios_reader.specs.declared.unsettled.Setting.TheVariants.{Med, NextHop, Communities}
+use Rattle.ios_reader.specs.declared.unsettled.Setting.TheVariants.{Med, Path, NextHop, Communities}
 use Rattle.ios_reader.specs.declared.unsettled.OpenEntry.{OpenEntry}
 
 -- the line sets this
 abbrev pub sets : Setting → MapLine → Bool
 sets Med line = sets_med line
+sets Path line = sets_path line
 sets NextHop line = sets_next_hop line
 sets Communities line = sets_communities line
 
@@ -38,6 +39,7 @@ abbrev pub head_number : List ℕ → IosForm → Option ℕ
 head_number name (PrefixEntry e) = None
 head_number name (PrefixDescription d) = None
 head_number name (CommunityEntry e) = None
+head_number name (PathEntry e) = None
 head_number name (MapHeader h) = elim (bytes_eq name h.map) [ true ↦ Some h.number | false ↦ None ]
 head_number name (Line l) = None
 head_number name (Other o) = None
@@ -47,6 +49,7 @@ abbrev pub with_line : (MapLine → Bool) → OpenEntry → IosForm → OpenEntr
 with_line test entry (PrefixEntry e) = entry
 with_line test entry (PrefixDescription d) = entry
 with_line test entry (CommunityEntry e) = entry
+with_line test entry (PathEntry e) = entry
 with_line test entry (MapHeader h) = entry
 with_line test entry (Line l) = record { number = entry.number; continues = entry.continues || continues l; sets = entry.sets || test l }
 with_line test entry (Other o) = entry

@@ -1,5 +1,5 @@
 -- Which words spell which form (Cisco IOS IP Routing: BGP command reference, 'ip prefix-list', 'ip
--- community-list', 'match community', 'set community', 'set comm-list delete' and others; Cisco IOS IP
+-- community-list', 'ip as-path access-list', 'match as-path', 'match community', 'set community', 'set comm-list delete' and others; Cisco IOS IP
 -- Routing: Protocol-Independent command reference, 'route-map', 'match ip address', 'continue').
 use Rattle.std.specs.Prelude.{◌≡◌, ℕ, ◌-◌, ◌≤◌, ◌^◌, Bool, true, false, IsTrue, ◌⊎◌, List, [], ◌∷◌, ◌++◌, Some, None, codes, decimal, length}
 use Rattle.route_types.specs.Words.{IsNumber, IsAddress, IsPrefix, IsCommunity}
@@ -10,20 +10,22 @@ use Rattle.route_types.specs.declared.route.Origin.{Origin}
 use Rattle.route_types.specs.declared.route.Origin.TheVariants.{Igp, Incomplete}
 use Rattle.policy_text.specs.Names.{is_name}
 use Rattle.policy_text.specs.Phrases.{Each}
+use Rattle.aspath_text.specs.IosGrammar.{SpellsPattern}
 use Rattle.ios_reader.specs.Names.{list_name, community_of_bits}
 use Rattle.ios_reader.specs.Sorts.{is_expanded}
 use Rattle.ios_reader.specs.declared.item.IosForm.{IosForm}
-use Rattle.ios_reader.specs.declared.item.IosForm.TheVariants.{PrefixEntry, PrefixDescription, CommunityEntry, MapHeader, Line, Other}
+use Rattle.ios_reader.specs.declared.item.IosForm.TheVariants.{PrefixEntry, PrefixDescription, CommunityEntry, PathEntry, MapHeader, Line, Other}
 use Rattle.ios_reader.specs.declared.item.PrefixListEntry.{PrefixListEntry}
 use Rattle.ios_reader.specs.declared.item.PrefixDescription.{PrefixDescription as Described}
 use Rattle.ios_reader.specs.declared.item.CommunityListEntry.{CommunityListEntry}
+use Rattle.ios_reader.specs.declared.item.PathListEntry.{PathListEntry}
 use Rattle.ios_reader.specs.declared.item.CommunityShape.{CommunityShape}
 use Rattle.ios_reader.specs.declared.item.CommunityShape.TheVariants.{Standard, Expanded}
 use Rattle.ios_reader.specs.declared.item.MapHeader.{MapHeader as Header}
 use Rattle.ios_reader.specs.declared.item.CommunityMatch.{CommunityMatch}
 use Rattle.ios_reader.specs.declared.item.CommunitySetting.{CommunitySetting}
 use Rattle.ios_reader.specs.declared.item.MapLine.{MapLine}
-use Rattle.ios_reader.specs.declared.item.MapLine.TheVariants.{MatchPrefix, MatchNextHop, MatchCommunity, MatchMetric, SetLocalPreference, SetMetric, SetWeight, SetPrepend, SetOrigin, SetNextHop, SetCommunity, DeleteCommunities, Continue, Description}
+use Rattle.ios_reader.specs.declared.item.MapLine.TheVariants.{MatchPrefix, MatchNextHop, MatchCommunity, MatchPath, MatchMetric, SetLocalPreference, SetMetric, SetWeight, SetPrepend, SetOrigin, SetNextHop, SetCommunity, DeleteCommunities, Continue, Description}
 
 -- ---- words
 
@@ -63,14 +65,28 @@ pub record AreSome {A : Type 0} (P : List ℕ → A → Type 0) (words : List (L
   pub some : 1 ≤ length words
   pub each : Each P words xs
 
+-- one or more names of lists
 abbrev pub AreLists : List (List ℕ) → List (List ℕ) → Type 0
 AreLists words lists = AreSome IsListWord words lists
 
+-- one or more numbers of 32 bits
 abbrev pub AreNumbers : List (List ℕ) → List ℕ → Type 0
 AreNumbers words ns = AreSome (IsNumber (2 ^ 32 - 1)) words ns
 
+-- one or more communities
 abbrev pub AreCommunities : List (List ℕ) → List Community → Type 0
 AreCommunities words cs = AreSome IsCommunityWord words cs
+
+-- a number from 1 to 2^64 - 1, which is the name of a path list
+pub record IsPathListWord (word list : List ℕ) : Type 0 where
+  pub number : ℕ
+  pub spelled : IsNumber (2 ^ 64 - 1) word number
+  pub some : 1 ≤ number
+  pub names : list ≡ word
+
+-- one or more names of path lists
+abbrev pub ArePathLists : List (List ℕ) → List (List ℕ) → Type 0
+ArePathLists words lists = AreSome IsPathListWord words lists
 
 -- ---- lists
 
@@ -134,6 +150,14 @@ pub record SpellCommunityEntry (ws : List (List ℕ)) (e : CommunityListEntry) :
   pub list : SpellCommunityList head (is_expanded e.shape) e.list
   pub shape : SpellShape body e.shape
 
+-- `ip as-path access-list n permit|deny X`
+pub record SpellPathEntry (ws : List (List ℕ)) (e : PathListEntry) : Type 0 where
+  pub name : List ℕ
+  pub word : List ℕ
+  pub words : ws ≡ codes "ip" ∷ codes "as-path" ∷ codes "access-list" ∷ name ∷ action_word e.permit ∷ word ∷ []
+  pub list : IsPathListWord name e.list
+  pub shape : SpellsPattern word e.pattern
+
 -- ---- route-maps
 
 -- `route-map N permit|deny S`
@@ -174,6 +198,7 @@ abbrev pub SpellLine : List (List ℕ) → MapLine → Type 0
 SpellLine ws (MatchPrefix m) = (names : List (List ℕ)) × (ws ≡ codes "match" ∷ codes "ip" ∷ codes "address" ∷ codes "prefix-list" ∷ names) × (m.family ≡ V4) × AreLists names m.lists
 SpellLine ws (MatchNextHop m) = (names : List (List ℕ)) × (ws ≡ codes "match" ∷ codes "ip" ∷ codes "next-hop" ∷ codes "prefix-list" ∷ names) × (m.family ≡ V4) × AreLists names m.lists
 SpellLine ws (MatchCommunity m) = (rest : List (List ℕ)) × (ws ≡ codes "match" ∷ codes "community" ∷ rest) × SpellCommunityMatch rest m
+SpellLine ws (MatchPath m) = (numbers : List (List ℕ)) × (ws ≡ codes "match" ∷ codes "as-path" ∷ numbers) × ArePathLists numbers m.lists
 SpellLine ws (MatchMetric ns) = (numbers : List (List ℕ)) × (ws ≡ codes "match" ∷ codes "metric" ∷ numbers) × AreNumbers numbers ns
 SpellLine ws (SetLocalPreference n) = (ws ≡ codes "set" ∷ codes "local-preference" ∷ decimal n ∷ []) × (n ≤ 2 ^ 32 - 1)
 SpellLine ws (SetMetric n) = (ws ≡ codes "set" ∷ codes "metric" ∷ decimal n ∷ []) × (n ≤ 2 ^ 32 - 1)
@@ -192,6 +217,7 @@ abbrev pub Spell : List (List ℕ) → IosForm → Type 0
 Spell ws (PrefixEntry e) = SpellPrefixEntry ws e
 Spell ws (PrefixDescription d) = SpellPrefixDescription ws d
 Spell ws (CommunityEntry e) = SpellCommunityEntry ws e
+Spell ws (PathEntry e) = SpellPathEntry ws e
 Spell ws (MapHeader h) = SpellMapHeader ws h
 Spell ws (Line l) = SpellLine ws l
 Spell ws (Other o) = ⊥

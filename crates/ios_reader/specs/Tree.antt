@@ -10,11 +10,11 @@ use Rattle.policy_text.specs.IosCut.{ios_cut}
 use Rattle.policy_text.specs.Names.{or_else}
 use Rattle.policy_text.specs.Phrases.{texts}
 use Rattle.ios_reader.specs.Names.{list_name}
-use Rattle.ios_reader.specs.Forms.{prefix_list_in, community_list_in, map_header_in, line_in}
+use Rattle.ios_reader.specs.Forms.{prefix_list_in, community_list_in, path_entry_in, map_header_in, line_in}
 use Rattle.ios_reader.specs.declared.item.ItemSort.{ItemSort}
 use Rattle.ios_reader.specs.declared.item.ItemSort.TheVariants.{PrefixList, CommunityList, PathList, Map, Line}
 use Rattle.ios_reader.specs.declared.item.IosForm.{IosForm}
-use Rattle.ios_reader.specs.declared.item.IosForm.TheVariants.{PrefixEntry, PrefixDescription, CommunityEntry, MapHeader, Other}
+use Rattle.ios_reader.specs.declared.item.IosForm.TheVariants.{PrefixEntry, PrefixDescription, CommunityEntry, PathEntry, MapHeader, Other}
 use Rattle.ios_reader.specs.declared.item.IosForm.TheVariants.{Line as OfLine}
 use Rattle.ios_reader.specs.declared.item.PrefixListEntry.{PrefixListEntry}
 use Rattle.ios_reader.specs.declared.item.IosItem.{IosItem}
@@ -67,7 +67,7 @@ name_under Line ws = None
 abbrev pub known_form : ItemSort → List (List ℕ) → Option IosForm
 known_form (PrefixList family) ws = prefix_list_in ws
 known_form CommunityList ws = community_list_in ws
-known_form PathList ws = None
+known_form PathList ws = path_entry_in ws
 known_form Map ws = map_header_in ws
 known_form Line ws = option_map OfLine (line_in ws)
 
@@ -114,15 +114,17 @@ is_of_list family list e = same_family family (family_of e) && bytes_eq list e.l
 abbrev pub greater : ℕ → ℕ → ℕ
 greater m n = elim (nat_le m n) [ true ↦ n | false ↦ m ]
 
--- the greatest number that the entries of a list have among these items; 0 where it has none
+-- the greater of the number of a form that is an entry of this list and of another number
 abbrev pub greatest_with : Family → List ℕ → IosForm → ℕ → ℕ
 greatest_with family list (PrefixEntry e) rest = elim (is_of_list family list e) [ true ↦ greater e.number rest | false ↦ rest ]
 greatest_with family list (PrefixDescription d) rest = rest
 greatest_with family list (CommunityEntry e) rest = rest
+greatest_with family list (PathEntry e) rest = rest
 greatest_with family list (MapHeader h) rest = rest
 greatest_with family list (OfLine l) rest = rest
 greatest_with family list (Other o) rest = rest
 
+-- the greatest number that the entries of a list have among these items; 0 where it has none
 abbrev pub greatest_number : Family → List ℕ → List IosItem → ℕ
 greatest_number family list [] = 0
 greatest_number family list (i ∷ is) = greatest_with family list i.form (greatest_number family list is)
@@ -143,10 +145,12 @@ numbered before (PrefixEntry e) = elim e.has_seq [
 ]
 numbered before (PrefixDescription d) = PrefixDescription d
 numbered before (CommunityEntry e) = CommunityEntry e
+numbered before (PathEntry e) = PathEntry e
 numbered before (MapHeader h) = MapHeader h
 numbered before (OfLine l) = OfLine l
 numbered before (Other o) = Other o
 
+-- the item with its number
 abbrev pub numbered_item : List IosItem → IosItem → IosItem
 numbered_item before i = record { form = numbered before i.form; span = i.span }
 

@@ -6,7 +6,7 @@ use Rattle.ios_reader.specs.Sorts.{sort_of_form, is_line_sort}
 use Rattle.ios_reader.specs.Lines.{kind_of}
 use Rattle.ios_reader.specs.Profile.{is_inside, open_header, open_lines, header_in, is_prefix_entry, is_map_header, is_community_entry, is_unknown, first_fault_from}
 use Rattle.ios_reader.specs.declared.item.IosForm.{IosForm}
-use Rattle.ios_reader.specs.declared.item.IosForm.TheVariants.{PrefixEntry, PrefixDescription, CommunityEntry, MapHeader, Line, Other}
+use Rattle.ios_reader.specs.declared.item.IosForm.TheVariants.{PrefixEntry, PrefixDescription, CommunityEntry, PathEntry, MapHeader, Line, Other}
 use Rattle.ios_reader.specs.declared.item.IosItem.{IosItem}
 use Rattle.ios_reader.specs.declared.item.MapHeader.{MapHeader as Header}
 use Rattle.ios_reader.specs.declared.item.MapLine.{MapLine}
@@ -28,13 +28,14 @@ abbrev pub kinds_with : List Bool → IosForm → List Bool
 kinds_with kinds (PrefixEntry e) = kinds
 kinds_with kinds (PrefixDescription d) = kinds
 kinds_with kinds (CommunityEntry e) = kinds
+kinds_with kinds (PathEntry e) = kinds
 kinds_with kinds (MapHeader h) = kinds
 kinds_with kinds (Line l) = set kinds (kind_of l) true
 kinds_with kinds (Other o) = kinds
 
 -- no line's flag
 abbrev pub no_kinds : List Bool
-no_kinds = false ∷ false ∷ false ∷ false ∷ false ∷ false ∷ false ∷ false ∷ false ∷ false ∷ false ∷ false ∷ false ∷ false ∷ []
+no_kinds = false ∷ false ∷ false ∷ false ∷ false ∷ false ∷ false ∷ false ∷ false ∷ false ∷ false ∷ false ∷ false ∷ false ∷ false ∷ []
 
 -- the place behind an item of this form
 abbrev pub place_behind : List ℕ → Place → IosForm → Place
@@ -48,7 +49,7 @@ pub record IsBehind (name : List ℕ) (before : List IosItem) (place : Place) (e
   pub inside_is : place.inside ≡ is_inside name false before
   pub head_is : place.head ≡ option_map head_of (open_header None before)
   pub kinds_are : (line : MapLine) → has_kind place.kinds line ≡ list_any (λ l. kind_of l == kind_of line) (open_lines [] before)
-  pub kinds_len : length place.kinds ≡ 14
+  pub kinds_len : length place.kinds ≡ 15
   pub entries_are : (f : Family) (q : List ℕ) (n : ℕ) → entries f q n ≡ list_any (λ i. is_prefix_entry f q n i.form) before
   pub headers_are : (q : List ℕ) (n : ℕ) → headers q n ≡ list_any (λ i. is_map_header q n i.form) before
   pub sorts_are : (q : List ℕ) (b : Bool) → sorts q b ≡ list_any (λ i. is_community_entry q b i.form) before

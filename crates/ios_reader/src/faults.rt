@@ -42,6 +42,7 @@ pub(crate) fn note_number<'a>(
         ),
         IosForm::PrefixDescription(_) => Ok(false),
         IosForm::CommunityEntry(_) => Ok(false),
+        IosForm::PathEntry(_) => Ok(false),
         IosForm::MapHeader(header) => add_entry(headers, header.map.as_slice(), header.number),
         IosForm::Line(_) => Ok(false),
         IosForm::Other(_) => Ok(false),
@@ -62,6 +63,7 @@ pub(crate) fn note_sort<'a>(
         IosForm::CommunityEntry(entry) => {
             add_sort(sorts, entry.list.as_slice(), is_expanded(&entry.shape))
         }
+        IosForm::PathEntry(_) => Ok(false),
         IosForm::MapHeader(_) => Ok(false),
         IosForm::Line(_) => Ok(false),
         IosForm::Other(_) => Ok(false),
@@ -83,7 +85,7 @@ fn is_named_prefix<'a>(
     }
 }
 
-fn is_named_community<'a>(names: &BTreeSet<&'a [u8]>, name: Option<&'a [u8]>) -> bool
+fn is_named_list<'a>(names: &BTreeSet<&'a [u8]>, name: Option<&'a [u8]>) -> bool
     ensures { result ≡ passes (λ list. has_name names.now list) (option_map (λ n. n.now) name.entry) }
 {
     match name {
@@ -99,8 +101,8 @@ fn is_reached<'a>(policy: &'a [u8], known: &Known<'a>, inside: bool, form: &'a I
         ItemSort::PrefixList(family) => {
             is_named_prefix(&known.prefix_names, family, name_of_form(form))
         }
-        ItemSort::CommunityList => is_named_community(&known.community_names, name_of_form(form)),
-        ItemSort::PathList => false,
+        ItemSort::CommunityList => is_named_list(&known.community_names, name_of_form(form)),
+        ItemSort::PathList => is_named_list(&known.path_names, name_of_form(form)),
         ItemSort::Map => stands_under(policy, form),
         ItemSort::Line => inside,
     }
@@ -164,6 +166,7 @@ fn lists_missing<'a>(policy: &[u8], known: &Known<'a>, line: &'a MapLine) -> boo
         MapLine::MatchCommunity(test) => {
             any_name_missing(&known.community_lists, test.lists.as_slice())
         }
+        MapLine::MatchPath(test) => any_name_missing(&known.path_lists, test.lists.as_slice()),
         MapLine::DeleteCommunities(list) => !has_name(&known.community_lists, list.as_slice()),
         _ => false,
     }
@@ -221,6 +224,7 @@ fn is_unsettled(policy: &[u8], known: &Known<'_>, head: EntryHead, line: &MapLin
         MapLine::MatchMetric(_) => is_above(known.med, head.number),
         MapLine::MatchNextHop(_) => is_above(known.next_hop, head.number),
         MapLine::MatchCommunity(_) => is_above(known.communities, head.number),
+        MapLine::MatchPath(_) => is_above(known.path, head.number),
         _ => false,
     }
 }

@@ -1,3 +1,4 @@
+use aspath_text::IosPattern;
 use policy_text::Span;
 use prefix_sets::PrefixEntry;
 use route_types::{Address, Community, Family, Origin, Rect, Row};
@@ -18,6 +19,8 @@ pub enum IosForm {
     PrefixDescription(PrefixDescription),
     /// `ip community-list n|standard N|expanded N permit|deny ..`
     CommunityEntry(CommunityListEntry),
+    /// `ip as-path access-list n permit|deny X`
+    PathEntry(PathListEntry),
     /// `route-map N permit|deny S`
     MapHeader(MapHeader),
     /// A line of the entry that is open.
@@ -62,6 +65,16 @@ pub enum CommunityShape {
     Expanded(Rect),
 }
 
+/// An entry of a path list.
+#[derive(Debug, Drop)]
+pub struct PathListEntry {
+    /// The number of the list, 1 to 2^64 - 1, in decimal.
+    pub list: Row<u8>,
+    pub permit: bool,
+    /// What is looked for in the text of a path.
+    pub pattern: IosPattern,
+}
+
 /// The first line of an entry of a route-map.
 #[derive(Debug, Drop)]
 pub struct MapHeader {
@@ -80,6 +93,8 @@ pub enum MapLine {
     MatchNextHop(PrefixMatch),
     /// `match community N.. [exact-match]`
     MatchCommunity(CommunityMatch),
+    /// `match as-path n..`
+    MatchPath(PathMatch),
     /// `match metric n..`
     MatchMetric(Row<u32>),
     /// `set local-preference n`
@@ -117,6 +132,12 @@ pub struct CommunityMatch {
     pub lists: Row<Row<u8>>,
     /// Whether the communities of a route have to be exactly those of an entry.
     pub exact: bool,
+}
+
+/// The path lists that a line names, each by its number in decimal; one of them has to hold.
+#[derive(Debug, Drop)]
+pub struct PathMatch {
+    pub lists: Row<Row<u8>>,
 }
 
 /// The communities that a line sets, none for `none`.

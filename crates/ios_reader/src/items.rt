@@ -9,6 +9,7 @@ ghost use Rattle.ios_reader.specs.declared.item.ItemSort.TheVariants.{CommunityL
 use crate::item::{IosForm, ItemSort, OtherItem};
 use crate::lines::line_in;
 use crate::lists::{community_list_in, map_header_in, prefix_list_in};
+use crate::path_lists::path_entry_in;
 use crate::words::list_name;
 use policy_text::{Word, after, copied, is};
 use route_types::{Family, Memory, Row};
@@ -146,7 +147,7 @@ fn known_form(alloc: Global, sort: ItemSort, words: &[Word]) -> Result<Option<Io
     match sort {
         ItemSort::PrefixList(_) => prefix_list_in(alloc, words),
         ItemSort::CommunityList => community_list_in(alloc, words),
-        ItemSort::PathList => Ok(None),
+        ItemSort::PathList => path_entry_in(alloc, words),
         ItemSort::Map => map_header_in(alloc, words),
         ItemSort::Line => line_form(alloc, words),
     }

@@ -2,8 +2,8 @@ ghost use Rattle.std.specs.Prelude.{◌≡◌, IfOk};
 ghost use Rattle.ios_reader.specs.Known.{known_facts, Knows};
 
 use crate::item::IosItem;
-use crate::named::{community_names, prefix_names};
-use crate::there::{community_lists, expanded_lists, map_headers, prefix_lists};
+use crate::named::{community_names, path_names, prefix_names};
+use crate::there::{community_lists, expanded_lists, map_headers, path_lists, prefix_lists};
 use crate::unsettled::{Setting, least_setting};
 use route_types::Memory;
 use std::alloc::Global;
@@ -16,16 +16,19 @@ pub(crate) struct Known<'a> {
     // The lists that are there.
     pub(crate) prefix_lists: BTreeSet<(&'a [u8], u64)>,
     pub(crate) community_lists: BTreeSet<&'a [u8]>,
+    pub(crate) path_lists: BTreeSet<&'a [u8]>,
     // The lists that the lines of the map name.
     pub(crate) prefix_names: BTreeSet<(&'a [u8], u64)>,
     pub(crate) community_names: BTreeSet<&'a [u8]>,
+    pub(crate) path_names: BTreeSet<&'a [u8]>,
     // The expanded community lists.
     pub(crate) expanded: BTreeSet<&'a [u8]>,
     // The headers of all maps, by name and number.
     pub(crate) headers: BTreeSet<(&'a [u8], u64)>,
-    // The least number of an entry of the map that continues and sets the MED, the next hop, the
-    // communities.
+    // The least number of an entry of the map that continues and sets the MED, the path, the next
+    // hop, the communities.
     pub(crate) med: Option<u64>,
+    pub(crate) path: Option<u64>,
     pub(crate) next_hop: Option<u64>,
     pub(crate) communities: Option<u64>,
 }
@@ -40,21 +43,27 @@ pub(crate) fn known_of<'a>(
 {
     let prefix_lists = prefix_lists(alloc, items)?;
     let community_lists = community_lists(alloc, items)?;
+    let path_lists = path_lists(alloc, items)?;
     let prefix_names = prefix_names(alloc, policy, items)?;
     let community_names = community_names(alloc, policy, items)?;
+    let path_names = path_names(alloc, policy, items)?;
     let expanded = expanded_lists(alloc, items)?;
     let headers = map_headers(alloc, items)?;
     let med = least_setting(policy, items, Setting::Med);
+    let path = least_setting(policy, items, Setting::Path);
     let next_hop = least_setting(policy, items, Setting::NextHop);
     let communities = least_setting(policy, items, Setting::Communities);
     Ok(Known {
         prefix_lists,
         community_lists,
+        path_lists,
         prefix_names,
         community_names,
+        path_names,
         expanded,
         headers,
         med,
+        path,
         next_hop,
         communities,
     })

@@ -1,6 +1,6 @@
 //! Reads Cisco IOS route-maps and the lists that they name as a tree, and checks that a policy of it
-//! lies in the profile. It stands on `policy_text`, `prefix_sets` and `community_sets`. Its definitions
-//! are in `specs/`: the names and forms, the tree, what is reached, the causes and the first fault. That
+//! lies in the profile. It stands on `policy_text`, `aspath_text`, `prefix_sets` and `community_sets`.
+//! Its definitions are in `specs/`: the names and forms, the tree, what is reached, the causes and the first fault. That
 //! the forms are found exactly where their words are spelled is the law in `laws`.
 #![tactic(auto)]
 
@@ -15,6 +15,7 @@ mod lines;
 mod lists;
 mod named;
 mod number;
+mod path_lists;
 mod place;
 mod read;
 mod seen;
@@ -29,7 +30,8 @@ pub use check::{check_ios, check_ios_within};
 pub use checked::CheckedIos;
 pub use item::{
     CommunityListEntry, CommunityMatch, CommunitySetting, CommunityShape, Forms, IosForm, IosItem,
-    ItemSort, MapHeader, MapLine, OtherItem, PrefixDescription, PrefixListEntry, PrefixMatch,
+    ItemSort, MapHeader, MapLine, OtherItem, PathListEntry, PathMatch, PrefixDescription,
+    PrefixListEntry, PrefixMatch,
 };
 pub use laws::forms_are_spelled;
 pub use read::read_ios;
@@ -39,5 +41,7 @@ pub use tree::IosTree;
 mod check_tests;
 #[cfg(test)]
 mod later_tests;
+#[cfg(test)]
+mod path_tests;
 #[cfg(test)]
 mod tests;

@@ -2,11 +2,11 @@
 
 ghost use Rattle.std.specs.Prelude.{◌≡◌, IfOk};
 ghost use Rattle.policy_text.specs.Phrases.{texts};
-ghost use Rattle.ios_reader.specs.Forms.{match_prefix_in, match_next_hop_in, match_community_in, match_metric_in, match_line_in, target_in, continue_in, description_in, line_in};
+ghost use Rattle.ios_reader.specs.Forms.{match_prefix_in, match_next_hop_in, match_community_in, match_path_in, match_metric_in, match_line_in, target_in, continue_in, description_in, line_in};
 
-use crate::item::{CommunityMatch, MapLine, PrefixMatch};
+use crate::item::{CommunityMatch, MapLine, PathMatch, PrefixMatch};
 use crate::set_lines::{set_list_in, set_value_in};
-use crate::words::{lists, option_in};
+use crate::words::{lists, option_in, path_lists};
 use policy_text::{Word, after, number_alone, numbers};
 use route_types::{Family, Memory};
 use std::alloc::Global;
@@ -58,6 +58,20 @@ fn match_community_in(alloc: Global, words: &[Word]) -> Result<Option<MapLine>, 
     Ok(Some(MapLine::MatchCommunity(CommunityMatch { lists, exact })))
 }
 
+// `match as-path n..`
+#[tactic(auto, unfolding(crate::specs::Forms::match_path_in))]
+fn match_path_in(alloc: Global, words: &[Word]) -> Result<Option<MapLine>, Memory>
+    ensures { IfOk result (λ o. o ≡ match_path_in (texts words.now)) }
+{
+    let Some(numbers) = after(words, &[b"match", b"as-path"]) else {
+        return Ok(None);
+    };
+    let Some(lists) = path_lists(alloc, numbers)? else {
+        return Ok(None);
+    };
+    Ok(Some(MapLine::MatchPath(PathMatch { lists })))
+}
+
 // `match metric n..`
 #[tactic(auto, unfolding(crate::specs::Forms::match_metric_in))]
 fn match_metric_in(alloc: Global, words: &[Word]) -> Result<Option<MapLine>, Memory>
@@ -84,6 +98,9 @@ fn match_line_in(alloc: Global, words: &[Word]) -> Result<Option<MapLine>, Memor
         return Ok(Some(line));
     }
     if let Some(line) = match_community_in(alloc, words)? {
+        return Ok(Some(line));
+    }
+    if let Some(line) = match_path_in(alloc, words)? {
         return Ok(Some(line));
     }
     match_metric_in(alloc, words)

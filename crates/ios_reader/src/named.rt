@@ -3,7 +3,7 @@ ghost use Rattle.std.specs.List.{list_any};
 ghost use Rattle.route_types.specs.Address.{same_family};
 ghost use Rattle.route_types.specs.declared.address.Family.{Family as SpecFamily};
 ghost use Rattle.ios_reader.specs.Entries.{onto_lines};
-ghost use Rattle.ios_reader.specs.Lines.{names_prefix_list, names_community_list};
+ghost use Rattle.ios_reader.specs.Lines.{names_prefix_list, names_community_list, names_path_list};
 ghost use Rattle.ios_reader.specs.Profile.{lines_of};
 ghost use Rattle.ios_reader.specs.declared.item.IosItem.{IosItem as SpecItem};
 ghost use Rattle.ios_reader.specs.declared.item.MapLine.{MapLine as SpecLine};
@@ -56,6 +56,7 @@ fn add_lists_of_form<'a>(
         IosForm::PrefixEntry(_) => Ok(()),
         IosForm::PrefixDescription(_) => Ok(()),
         IosForm::CommunityEntry(_) => Ok(()),
+        IosForm::PathEntry(_) => Ok(()),
         IosForm::MapHeader(_) => Ok(()),
         IosForm::Line(line) => add_lists_of_line(lists, line),
         IosForm::Other(_) => Ok(()),
@@ -130,6 +131,7 @@ fn add_names_of_form<'a>(names: &mut BTreeSet<&'a [u8]>, form: &'a IosForm) -> R
         IosForm::PrefixEntry(_) => Ok(()),
         IosForm::PrefixDescription(_) => Ok(()),
         IosForm::CommunityEntry(_) => Ok(()),
+        IosForm::PathEntry(_) => Ok(()),
         IosForm::MapHeader(_) => Ok(()),
         IosForm::Line(line) => add_names_of_line(names, line),
         IosForm::Other(_) => Ok(()),
@@ -168,6 +170,74 @@ pub(crate) fn community_names<'a>(
     let mut rest = items;
     while let [first, tail @ ..] = rest {
         inside = note_community_names(policy, &mut names, inside, first)?;
+        rest = tail;
+    }
+    Ok(names)
+}
+
+// ---- path lists
+
+fn add_path_names_of_line<'a>(
+    names: &mut BTreeSet<&'a [u8]>,
+    line: &'a MapLine,
+) -> Result<(), Memory>
+    ensures { OnOk result ((q : List ℕ) → has_name names.new q ≡ (has_name names.old q || names_path_list q line.now)) }
+{
+    match line {
+        MapLine::MatchPath(test) => add_names(names, test.lists.as_slice()),
+        _ => Ok(()),
+    }
+}
+
+fn add_path_names_of_form<'a>(
+    names: &mut BTreeSet<&'a [u8]>,
+    form: &'a IosForm,
+) -> Result<(), Memory>
+    ensures { OnOk result ((q : List ℕ) (ls : List SpecLine) → (has_name names.new q || list_any (names_path_list q) ls) ≡ (has_name names.old q || list_any (names_path_list q) (onto_lines form.now ls))) }
+{
+    match form {
+        IosForm::PrefixEntry(_) => Ok(()),
+        IosForm::PrefixDescription(_) => Ok(()),
+        IosForm::CommunityEntry(_) => Ok(()),
+        IosForm::PathEntry(_) => Ok(()),
+        IosForm::MapHeader(_) => Ok(()),
+        IosForm::Line(line) => add_path_names_of_line(names, line),
+        IosForm::Other(_) => Ok(()),
+    }
+}
+
+// As `note_prefix_names`, for path lists.
+fn note_path_names<'a>(
+    policy: &[u8],
+    names: &mut BTreeSet<&'a [u8]>,
+    inside: bool,
+    item: &'a IosItem,
+) -> Result<bool, Memory>
+    ensures { IfOk result (λ o. (q : List ℕ) (is : List SpecItem) → (has_name names.new q || list_any (names_path_list q) (lines_of policy.now o is)) ≡ (has_name names.old q || list_any (names_path_list q) (lines_of policy.now inside (item.now ∷ is)))) }
+{
+    if !is_line(&item.form) {
+        return Ok(heads(policy, &item.form));
+    }
+    if inside {
+        add_path_names_of_form(names, &item.form)?;
+        return Ok(true);
+    }
+    Ok(false)
+}
+
+// The path lists that the lines of the policy name.
+pub(crate) fn path_names<'a>(
+    alloc: Global,
+    policy: &[u8],
+    items: &'a [IosItem],
+) -> Result<BTreeSet<&'a [u8]>, Memory>
+    ensures { IfOk result (λ s. (q : List ℕ) → has_name s q ≡ list_any (names_path_list q) (lines_of policy.now false items.now)) }
+{
+    let mut names = BTreeSet::new(alloc);
+    let mut inside = false;
+    let mut rest = items;
+    while let [first, tail @ ..] = rest {
+        inside = note_path_names(policy, &mut names, inside, first)?;
         rest = tail;
     }
     Ok(names)

@@ -138,6 +138,7 @@ pub(crate) fn numbered<'a>(
         },
         IosForm::PrefixDescription(description) => Ok(IosForm::PrefixDescription(description)),
         IosForm::CommunityEntry(entry) => Ok(IosForm::CommunityEntry(entry)),
+        IosForm::PathEntry(entry) => Ok(IosForm::PathEntry(entry)),
         IosForm::MapHeader(header) => Ok(IosForm::MapHeader(header)),
         IosForm::Line(line) => Ok(IosForm::Line(line)),
         IosForm::Other(other) => Ok(IosForm::Other(other)),

@@ -18,7 +18,7 @@ pub(crate) struct EntryHead {
 pub(crate) struct Place {
     pub(crate) inside: bool,
     pub(crate) head: Option<EntryHead>,
-    pub(crate) kinds: [bool; 14],
+    pub(crate) kinds: [bool; 15],
 }
 
 pub(crate) fn place_of_start() -> Place
@@ -27,17 +27,17 @@ pub(crate) fn place_of_start() -> Place
     Place {
         inside: false,
         head: None,
-        kinds: [false; 14],
+        kinds: [false; 15],
     }
 }
 
-pub(crate) fn has_kind(kinds: &[bool; 14], line: &MapLine) -> bool
+pub(crate) fn has_kind(kinds: &[bool; 15], line: &MapLine) -> bool
     ensures { result ≡ has_kind kinds.now line.now }
 {
     kinds[kind_of(line)]
 }
 
-fn kinds_with(kinds: [bool; 14], form: &IosForm) -> [bool; 14]
+fn kinds_with(kinds: [bool; 15], form: &IosForm) -> [bool; 15]
     ensures { result ≡ kinds_with kinds form.now }
 {
     let mut more = kinds;
@@ -72,6 +72,6 @@ pub(crate) fn place_behind(policy: &[u8], place: Place, form: &IosForm) -> Place
     Place {
         inside: heads(policy, form),
         head: head_in(form),
-        kinds: [false; 14],
+        kinds: [false; 15],
     }
 }

@@ -23,6 +23,7 @@ pub(crate) fn sort_of_form(form: &IosForm) -> ItemSort
         IosForm::PrefixEntry(entry) => ItemSort::PrefixList(family_of(entry)),
         IosForm::PrefixDescription(description) => ItemSort::PrefixList(description.family),
         IosForm::CommunityEntry(_) => ItemSort::CommunityList,
+        IosForm::PathEntry(_) => ItemSort::PathList,
         IosForm::MapHeader(_) => ItemSort::Map,
         IosForm::Line(_) => ItemSort::Line,
         IosForm::Other(other) => other.sort,
@@ -45,6 +46,7 @@ pub(crate) fn name_of_form(form: &IosForm) -> Option<&[u8]>
         IosForm::PrefixEntry(entry) => Some(entry.list.as_slice()),
         IosForm::PrefixDescription(description) => Some(description.list.as_slice()),
         IosForm::CommunityEntry(entry) => Some(entry.list.as_slice()),
+        IosForm::PathEntry(entry) => Some(entry.list.as_slice()),
         IosForm::MapHeader(header) => Some(header.map.as_slice()),
         IosForm::Line(_) => None,
         IosForm::Other(other) => name_of_other(&other.name),
@@ -97,6 +99,7 @@ pub(crate) fn is_description(form: &IosForm) -> bool
         IosForm::PrefixEntry(_) => false,
         IosForm::PrefixDescription(_) => true,
         IosForm::CommunityEntry(_) => false,
+        IosForm::PathEntry(_) => false,
         IosForm::MapHeader(_) => false,
         IosForm::Line(_) => false,
         IosForm::Other(_) => false,
@@ -121,6 +124,7 @@ fn has_no_form(form: &IosForm) -> bool
         IosForm::PrefixEntry(_) => false,
         IosForm::PrefixDescription(_) => false,
         IosForm::CommunityEntry(_) => false,
+        IosForm::PathEntry(_) => false,
         IosForm::MapHeader(_) => false,
         IosForm::Line(_) => false,
         IosForm::Other(_) => true,
@@ -145,6 +149,7 @@ fn is_first_form(form: &IosForm) -> bool
         IosForm::PrefixEntry(entry) => entry.has_seq && entry.entry.permit,
         IosForm::PrefixDescription(_) => true,
         IosForm::CommunityEntry(_) => false,
+        IosForm::PathEntry(_) => false,
         IosForm::MapHeader(_) => true,
         IosForm::Line(line) => is_first_line(line),
         IosForm::Other(_) => false,
@@ -165,23 +170,24 @@ pub(crate) fn is_unknown(taken: Forms, form: &IosForm) -> bool
 // The form of a line as a number.
 pub(crate) fn kind_of(line: &MapLine) -> usize
     ensures value { result ≡ kind_of line.now }
-    ensures within { result < 14 }
+    ensures within { result < 15 }
 {
     match line {
         MapLine::MatchPrefix(_) => 0,
         MapLine::MatchNextHop(_) => 1,
         MapLine::MatchCommunity(_) => 2,
-        MapLine::MatchMetric(_) => 3,
-        MapLine::SetLocalPreference(_) => 4,
-        MapLine::SetMetric(_) => 5,
-        MapLine::SetWeight(_) => 6,
-        MapLine::SetPrepend(_) => 7,
-        MapLine::SetOrigin(_) => 8,
-        MapLine::SetNextHop(_) => 9,
-        MapLine::SetCommunity(_) => 10,
-        MapLine::DeleteCommunities(_) => 11,
-        MapLine::Continue(_) => 12,
-        MapLine::Description => 13,
+        MapLine::MatchPath(_) => 3,
+        MapLine::MatchMetric(_) => 4,
+        MapLine::SetLocalPreference(_) => 5,
+        MapLine::SetMetric(_) => 6,
+        MapLine::SetWeight(_) => 7,
+        MapLine::SetPrepend(_) => 8,
+        MapLine::SetOrigin(_) => 9,
+        MapLine::SetNextHop(_) => 10,
+        MapLine::SetCommunity(_) => 11,
+        MapLine::DeleteCommunities(_) => 12,
+        MapLine::Continue(_) => 13,
+        MapLine::Description => 14,
     }
 }
 

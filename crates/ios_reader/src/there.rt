@@ -2,8 +2,8 @@ ghost use Rattle.std.specs.Prelude.{◌≡◌, ℕ, ◌||◌, List, IfOk, OnOk, 
 ghost use Rattle.std.specs.List.{list_any};
 ghost use Rattle.route_types.specs.declared.address.Family.{Family as SpecFamily};
 ghost use Rattle.policy_text.specs.Names.{is_named};
-ghost use Rattle.ios_reader.specs.Profile.{of_prefix_list, of_community_list, is_community_entry, is_map_header};
-ghost use Rattle.ios_reader.specs.FormSorts.{prefix_list_form, community_list_form};
+ghost use Rattle.ios_reader.specs.Profile.{of_prefix_list, of_community_list, of_path_list, is_community_entry, is_map_header};
+ghost use Rattle.ios_reader.specs.FormSorts.{prefix_list_form, community_list_form, path_list_form};
 ghost use Rattle.ios_reader.specs.Seen.{has_name, has_entry, has_list};
 ghost use Rattle.ios_reader.specs.declared.item.IosForm.TheVariants.{CommunityEntry as CommunityForm, Other as OtherForm};
 
@@ -36,6 +36,7 @@ fn note_list<'a>(lists: &mut BTreeSet<(&'a [u8], u64)>, form: &'a IosForm) -> Re
         IosForm::PrefixEntry(entry) => add_list(lists, family_of(entry), entry.list.as_slice()),
         IosForm::PrefixDescription(_) => Ok(()),
         IosForm::CommunityEntry(_) => Ok(()),
+        IosForm::PathEntry(_) => Ok(()),
         IosForm::MapHeader(_) => Ok(()),
         IosForm::Line(_) => Ok(()),
         IosForm::Other(other) => note_list_of_other(lists, other),
@@ -95,6 +96,7 @@ fn note_communities<'a>(names: &mut BTreeSet<&'a [u8]>, form: &'a IosForm) -> Re
         IosForm::PrefixEntry(_) => Ok(()),
         IosForm::PrefixDescription(_) => Ok(()),
         IosForm::CommunityEntry(entry) => add_name(names, entry.list.as_slice()),
+        IosForm::PathEntry(_) => Ok(()),
         IosForm::MapHeader(_) => Ok(()),
         IosForm::Line(_) => Ok(()),
         IosForm::Other(other) => note_communities_of_other(names, other),
@@ -137,6 +139,7 @@ fn note_expanded<'a>(names: &mut BTreeSet<&'a [u8]>, form: &'a IosForm) -> Resul
         IosForm::PrefixEntry(_) => Ok(()),
         IosForm::PrefixDescription(_) => Ok(()),
         IosForm::CommunityEntry(entry) => add_if_expanded(names, entry),
+        IosForm::PathEntry(_) => Ok(()),
         IosForm::MapHeader(_) => Ok(()),
         IosForm::Line(_) => Ok(()),
         IosForm::Other(_) => Ok(()),
@@ -159,6 +162,54 @@ pub(crate) fn expanded_lists<'a>(
     Ok(names)
 }
 
+// ---- path lists
+
+fn note_paths_of_other<'a>(
+    names: &mut BTreeSet<&'a [u8]>,
+    other: &'a OtherItem,
+) -> Result<(), Memory>
+    ensures { OnOk result ((q : List ℕ) → has_name names.new q ≡ (has_name names.old q || path_list_form q (OtherForm other.now))) }
+{
+    match other.sort {
+        ItemSort::PrefixList(_) => Ok(()),
+        ItemSort::CommunityList => Ok(()),
+        ItemSort::PathList => add_some_name(names, &other.name),
+        ItemSort::Map => Ok(()),
+        ItemSort::Line => Ok(()),
+    }
+}
+
+// Adds the path list that an item is of, if it is of one.
+fn note_paths<'a>(names: &mut BTreeSet<&'a [u8]>, form: &'a IosForm) -> Result<(), Memory>
+    ensures { OnOk result ((q : List ℕ) → has_name names.new q ≡ (has_name names.old q || path_list_form q form.now)) }
+{
+    match form {
+        IosForm::PrefixEntry(_) => Ok(()),
+        IosForm::PrefixDescription(_) => Ok(()),
+        IosForm::CommunityEntry(_) => Ok(()),
+        IosForm::PathEntry(entry) => add_name(names, entry.list.as_slice()),
+        IosForm::MapHeader(_) => Ok(()),
+        IosForm::Line(_) => Ok(()),
+        IosForm::Other(other) => note_paths_of_other(names, other),
+    }
+}
+
+// The path lists that are there.
+pub(crate) fn path_lists<'a>(
+    alloc: Global,
+    items: &'a [IosItem],
+) -> Result<BTreeSet<&'a [u8]>, Memory>
+    ensures { IfOk result (λ s. (q : List ℕ) → has_name s q ≡ list_any (of_path_list q) items.now) }
+{
+    let mut names = BTreeSet::new(alloc);
+    let mut rest = items;
+    while let [first, tail @ ..] = rest {
+        note_paths(&mut names, &first.form)?;
+        rest = tail;
+    }
+    Ok(names)
+}
+
 // ---- headers
 
 // Adds the number of a map's header under its name.
@@ -169,6 +220,7 @@ fn note_header<'a>(headers: &mut BTreeSet<(&'a [u8], u64)>, form: &'a IosForm) -
         IosForm::PrefixEntry(_) => Ok(()),
         IosForm::PrefixDescription(_) => Ok(()),
         IosForm::CommunityEntry(_) => Ok(()),
+        IosForm::PathEntry(_) => Ok(()),
         IosForm::MapHeader(header) => {
             add_entry(headers, header.map.as_slice(), header.number)?;
             Ok(())

@@ -12,6 +12,7 @@ use crate::sorts::{continues, is_line, same_name};
 #[derive(Clone, Copy)]
 pub(crate) enum Setting {
     Med,
+    Path,
     NextHop,
     Communities,
 }
@@ -30,6 +31,7 @@ fn sets(setting: Setting, line: &MapLine) -> bool
 {
     match setting {
         Setting::Med => matches!(line, MapLine::SetMetric(_)),
+        Setting::Path => matches!(line, MapLine::SetPrepend(_)),
         Setting::NextHop => matches!(line, MapLine::SetNextHop(_)),
         Setting::Communities => {
             matches!(
@@ -47,6 +49,7 @@ fn head_number(policy: &[u8], form: &IosForm) -> Option<u64>
         IosForm::PrefixEntry(_) => None,
         IosForm::PrefixDescription(_) => None,
         IosForm::CommunityEntry(_) => None,
+        IosForm::PathEntry(_) => None,
         IosForm::MapHeader(header) => number_under(policy, header),
         IosForm::Line(_) => None,
         IosForm::Other(_) => None,

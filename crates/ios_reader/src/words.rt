@@ -5,7 +5,7 @@ ghost use Rattle.std.specs.List.{list_all};
 ghost use Rattle.policy_text.specs.Phrases.{texts, each, each_onto, some_each};
 ghost use Rattle.route_types.specs.Words.{is_digit, number_in};
 ghost use Rattle.ios_reader.specs.Forms.{option_in};
-ghost use Rattle.ios_reader.specs.Names.{without_zeros, list_name, list_in, permit_in, known_community, whole_community, community_word_in, half_in, shape_in};
+ghost use Rattle.ios_reader.specs.Names.{without_zeros, list_name, list_in, path_list_in, permit_in, known_community, whole_community, community_word_in, half_in, shape_in};
 
 use policy_text::{Word, copied, is, is_name, parts_at, read_community, read_number};
 use route_types::{Community, Memory, Rect, Row};
@@ -81,6 +81,50 @@ pub(crate) fn lists(alloc: Global, words: &[Word]) -> Result<Option<Row<Row<u8>>
     match words {
         [] => Ok(None),
         _ => all_lists(alloc, words),
+    }
+}
+
+// ---- names of path lists
+
+// The path list that a word names: a number from 1 on, which is its name.
+pub(crate) fn path_list_in(word: &Word) -> Option<&[u8]>
+    ensures { option_map (λ n. n.now) result ≡ path_list_in word.now.text }
+{
+    let text = word.text.as_slice();
+    let number = read_number(text, u64::MAX)?;
+    if 1 <= number { Some(text) } else { None }
+}
+
+#[tactic(auto, unfolding(policy_text::specs::Phrases::each_onto))]
+fn each_path_list(alloc: Global, words: &[Word]) -> Result<Option<Row<Row<u8>>>, Memory>
+    ensures { IfOk result (λ o. o ≡ each_onto path_list_in [] (texts words.now)) }
+{
+    let mut found = Row::new(alloc);
+    let mut rest = words;
+    while let [first, tail @ ..] = rest {
+        let Some(list) = path_list_in(first) else {
+            return Ok(None);
+        };
+        found.push(copied(alloc, list)?)?;
+        rest = tail;
+    }
+    Ok(Some(found))
+}
+
+#[tactic(auto, using(policy_text::proofs::Phrases::each_by_walk))]
+fn all_path_lists(alloc: Global, words: &[Word]) -> Result<Option<Row<Row<u8>>>, Memory>
+    ensures { IfOk result (λ o. o ≡ each path_list_in (texts words.now)) }
+{
+    each_path_list(alloc, words)
+}
+
+// The path lists that the words name; `None` where there is no word, or where a word is no such number.
+pub(crate) fn path_lists(alloc: Global, words: &[Word]) -> Result<Option<Row<Row<u8>>>, Memory>
+    ensures { IfOk result (λ o. o ≡ some_each path_list_in (texts words.now)) }
+{
+    match words {
+        [] => Ok(None),
+        _ => all_path_lists(alloc, words),
     }
 }
 

@@ -12,7 +12,7 @@ use Rattle.prefix_sets.specs.FirstMatch.{first_match}
 use Rattle.ios_reader.specs.Sorts.{is_line}
 use Rattle.ios_reader.specs.Entries.{Entry, onto_lines, lines_below, entry_from, entries_of}
 use Rattle.ios_reader.specs.declared.item.IosForm.{IosForm}
-use Rattle.ios_reader.specs.declared.item.IosForm.TheVariants.{PrefixEntry, PrefixDescription, CommunityEntry, MapHeader, Line, Other}
+use Rattle.ios_reader.specs.declared.item.IosForm.TheVariants.{PrefixEntry, PrefixDescription, CommunityEntry, PathEntry, MapHeader, Line, Other}
 use Rattle.ios_reader.specs.declared.item.IosItem.{IosItem}
 use Rattle.ios_reader.specs.declared.item.MapHeader.{MapHeader as Header}
 use Rattle.ios_reader.specs.declared.item.MapLine.{MapLine}
@@ -99,6 +99,7 @@ onto_plain : (form : IosForm) (lines : List MapLine) → IsPlainForm form → Al
 onto_plain (PrefixEntry e) lines here behind = behind
 onto_plain (PrefixDescription d) lines here behind = behind
 onto_plain (CommunityEntry e) lines here behind = behind
+onto_plain (PathEntry e) lines here behind = behind
 onto_plain (MapHeader h) lines here behind = behind
 onto_plain (Line l) lines here behind = (here, behind)
 onto_plain (Other o) lines here behind = behind
@@ -125,6 +126,7 @@ entry_plain : (name : List ℕ) (form : IosForm) (lines : List MapLine) (rest : 
 entry_plain name (PrefixEntry e) lines rest here behind = behind
 entry_plain name (PrefixDescription d) lines rest here behind = behind
 entry_plain name (CommunityEntry e) lines rest here behind = behind
+entry_plain name (PathEntry e) lines rest here behind = behind
 entry_plain name (MapHeader h) lines rest here behind = header_plain (bytes_eq name h.map) h lines rest here behind
 entry_plain name (Line l) lines rest here behind = behind
 entry_plain name (Other o) lines rest here behind = behind

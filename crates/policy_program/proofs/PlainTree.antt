@@ -14,7 +14,7 @@ use Rattle.ios_reader.specs.Tree.{known_form, name_under, form_of, sort_of, belo
 use Rattle.ios_reader.specs.declared.item.ItemSort.{ItemSort}
 use Rattle.ios_reader.specs.declared.item.ItemSort.TheVariants.{PrefixList}
 use Rattle.ios_reader.specs.declared.item.IosForm.{IosForm}
-use Rattle.ios_reader.specs.declared.item.IosForm.TheVariants.{PrefixEntry, PrefixDescription, CommunityEntry, MapHeader, Line, Other}
+use Rattle.ios_reader.specs.declared.item.IosForm.TheVariants.{PrefixEntry, PrefixDescription, CommunityEntry, PathEntry, MapHeader, Line, Other}
 use Rattle.ios_reader.specs.declared.item.MapLine.{MapLine}
 use Rattle.ios_reader.specs.declared.item.MapLine.TheVariants.{MatchPrefix, SetLocalPreference}
 use Rattle.ios_reader.specs.declared.item.PrefixListEntry.{PrefixListEntry}
@@ -36,6 +36,7 @@ form_plain words (PrefixEntry e) h =
     record { family = plain.family; prefix = plain.masked; least = h.lengths.0; rises = h.lengths.1; most = h.lengths.2 }
 form_plain words (PrefixDescription d) h = tt
 form_plain words (CommunityEntry e) h = tt
+form_plain words (PathEntry e) h = tt
 form_plain words (MapHeader m) h = tt
 form_plain words (Line l) h = line_plain words l h
 form_plain words (Other o) h = absurd h
@@ -90,6 +91,7 @@ numbered_plain : (before : List IosItem) (form : IosForm) â†’ IsPlainForm form â
 numbered_plain before (PrefixEntry e) plain = entry_plain before e e.has_seq plain
 numbered_plain before (PrefixDescription d) plain = tt
 numbered_plain before (CommunityEntry e) plain = tt
+numbered_plain before (PathEntry e) plain = tt
 numbered_plain before (MapHeader h) plain = tt
 numbered_plain before (Line l) plain = plain
 numbered_plain before (Other o) plain = tt

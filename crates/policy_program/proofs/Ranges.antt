@@ -13,7 +13,7 @@ use Rattle.prefix_sets.specs.FirstMatch.{first_match}
 use Rattle.ios_reader.specs.Tree.{family_of, is_of_list}
 use Rattle.ios_reader.specs.declared.item.PrefixListEntry.{PrefixListEntry}
 use Rattle.ios_reader.specs.declared.item.IosForm.{IosForm}
-use Rattle.ios_reader.specs.declared.item.IosForm.TheVariants.{PrefixEntry, PrefixDescription, CommunityEntry, MapHeader, Line, Other}
+use Rattle.ios_reader.specs.declared.item.IosForm.TheVariants.{PrefixEntry, PrefixDescription, CommunityEntry, PathEntry, MapHeader, Line, Other}
 use Rattle.ios_reader.specs.declared.item.IosItem.{IosItem}
 use Rattle.ios_meaning.specs.Order.{in_order}
 use Rattle.ios_meaning.specs.Lists.{prefix_entry_from, prefix_entries, prefix_list}
@@ -76,6 +76,7 @@ form_passes f q (PrefixEntry e) rest es plain h =
     ∙ ap (λ (b : Bool). passes f q e || b) h
 form_passes f q (PrefixDescription d) rest es plain h = h
 form_passes f q (CommunityEntry e) rest es plain h = h
+form_passes f q (PathEntry e) rest es plain h = h
 form_passes f q (MapHeader m) rest es plain h = h
 form_passes f q (Line l) rest es plain h = h
 form_passes f q (Other o) rest es plain h = h
@@ -103,6 +104,7 @@ form_plain : (form : IosForm) (es : List PrefixListEntry) → IsPlainForm form �
 form_plain (PrefixEntry e) es plain rest = (plain, rest)
 form_plain (PrefixDescription d) es plain rest = rest
 form_plain (CommunityEntry e) es plain rest = rest
+form_plain (PathEntry e) es plain rest = rest
 form_plain (MapHeader m) es plain rest = rest
 form_plain (Line l) es plain rest = rest
 form_plain (Other o) es plain rest = rest

@@ -18,7 +18,7 @@ use Rattle.ios_reader.specs.declared.item.ItemSort.{ItemSort}
 use Rattle.ios_reader.specs.declared.item.ItemSort.TheVariants.{PrefixList, CommunityList, PathList, Map}
 use Rattle.ios_reader.specs.declared.item.ItemSort.TheVariants.{Line as LineSort}
 use Rattle.ios_reader.specs.declared.item.IosForm.{IosForm}
-use Rattle.ios_reader.specs.declared.item.IosForm.TheVariants.{PrefixEntry, PrefixDescription, CommunityEntry, MapHeader, Line, Other}
+use Rattle.ios_reader.specs.declared.item.IosForm.TheVariants.{PrefixEntry, PrefixDescription, CommunityEntry, PathEntry, MapHeader, Line, Other}
 use Rattle.ios_reader.specs.declared.item.IosItem.{IosItem}
 use Rattle.ios_reader.specs.declared.item.MapHeader.{MapHeader as Header}
 use Rattle.ios_reader.specs.declared.item.MapLine.{MapLine}
@@ -162,6 +162,7 @@ form_first : (name : List ℕ) (all before is : List IosItem) (form : IosForm) (
 form_first name all before is (PrefixEntry e) s more inside sound = tt
 form_first name all before is (PrefixDescription d) s more inside sound = tt
 form_first name all before is (CommunityEntry e) s more inside sound = tt
+form_first name all before is (PathEntry e) s more inside sound = tt
 form_first name all before is (MapHeader h) s more inside sound = tt
 form_first name all before is (Line l) s more inside sound = line_first name all before is l s more inside sound
 form_first name all before is (Other o) s more inside sound = other_first name all before is o.sort o.name s inside sound
@@ -191,6 +192,7 @@ entry_first : (name : List ℕ) (all before is : List IosItem) (form : IosForm) 
 entry_first name all before is (PrefixEntry e) s sound behind = behind
 entry_first name all before is (PrefixDescription d) s sound behind = behind
 entry_first name all before is (CommunityEntry e) s sound behind = behind
+entry_first name all before is (PathEntry e) s sound behind = behind
 entry_first name all before is (MapHeader h) s sound behind =
     header_first name h (lines_below is) (entries_of name is) (bytes_eq name h.map) (λ named. below_first name all before is h s named sound) behind
 entry_first name all before is (Line l) s sound behind = behind

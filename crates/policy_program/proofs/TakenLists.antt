@@ -19,7 +19,7 @@ use Rattle.ios_reader.specs.declared.item.ItemSort.{ItemSort}
 use Rattle.ios_reader.specs.declared.item.ItemSort.TheVariants.{PrefixList, CommunityList, PathList, Map}
 use Rattle.ios_reader.specs.declared.item.ItemSort.TheVariants.{Line as LineSort}
 use Rattle.ios_reader.specs.declared.item.IosForm.{IosForm}
-use Rattle.ios_reader.specs.declared.item.IosForm.TheVariants.{PrefixEntry, PrefixDescription, CommunityEntry, MapHeader, Line, Other}
+use Rattle.ios_reader.specs.declared.item.IosForm.TheVariants.{PrefixEntry, PrefixDescription, CommunityEntry, PathEntry, MapHeader, Line, Other}
 use Rattle.ios_reader.specs.declared.item.IosItem.{IosItem}
 use Rattle.ios_reader.specs.declared.item.MapHeader.{MapHeader as Header}
 use Rattle.ios_reader.specs.declared.item.MapLine.{MapLine}
@@ -62,6 +62,7 @@ form_permits name all before family list (PrefixEntry e) s rest reached none beh
     of_list_permits e rest (is_of_list family list e) (λ of. entry_permits name all before family list e s reached of none) behind
 form_permits name all before family list (PrefixDescription d) s rest reached none behind = behind
 form_permits name all before family list (CommunityEntry e) s rest reached none behind = behind
+form_permits name all before family list (PathEntry e) s rest reached none behind = behind
 form_permits name all before family list (MapHeader h) s rest reached none behind = behind
 form_permits name all before family list (Line l) s rest reached none behind = behind
 form_permits name all before family list (Other o) s rest reached none behind = behind
@@ -92,6 +93,7 @@ onto_any : (f : MapLine → Bool) (form : IosForm) (xs ys : List MapLine) → (l
 onto_any f (PrefixEntry e) xs ys more h = more h
 onto_any f (PrefixDescription d) xs ys more h = more h
 onto_any f (CommunityEntry e) xs ys more h = more h
+onto_any f (PathEntry e) xs ys more h = more h
 onto_any f (MapHeader m) xs ys more h = more h
 onto_any f (Line l) xs ys more h = or_behind (f l) (list_any f xs) (list_any f ys) more h
 onto_any f (Other o) xs ys more h = more h
@@ -139,6 +141,7 @@ form_has : (name : List ℕ) (is : List IosItem) (form : IosForm) (s : Span) (in
 form_has name is (PrefixEntry e) s inside behind = behind false
 form_has name is (PrefixDescription d) s inside behind = behind false
 form_has name is (CommunityEntry e) s inside behind = behind false
+form_has name is (PathEntry e) s inside behind = behind false
 form_has name is (MapHeader h) s inside behind = header_has name is h (bytes_eq name h.map) behind
 form_has name is (Line l) s inside behind = line_has name is l inside behind
 form_has name is (Other o) s inside behind = unknown_has name is o.sort o.name s inside behind

@@ -44,6 +44,7 @@ ReceivedPrefix s bytes = PutsPrefix s.before s.now bytes
 abbrev pub FaultsRose : Sinks → Type 0
 FaultsRose s = Rose s.before.faults s.now.faults
 
+-- the count of shortages of the sink rose
 abbrev pub ShortagesRose : Sinks → Type 0
 ShortagesRose s = Rose s.before.shortages s.now.shortages
 

@@ -40,28 +40,35 @@ cause_name TooDeep = codes "too-deep"
 cause_name ArgumentCount = codes "argument-count"
 cause_name BadArgument = codes "bad-argument"
 
--- the lines, each with its LF
+-- the line of words that ask for nothing
 abbrev pub usage_line : List ℕ
 usage_line = codes "usage: translate, judge, compare or sample\n"
 
+-- the file has no policy of this name
 abbrev pub no_policy_line : List ℕ → List ℕ → List ℕ
 no_policy_line file policy = joined (file ∷ codes ": no policy " ∷ policy ∷ codes "\n" ∷ [])
 
+-- a cause at a line and a column of the file
 abbrev pub fault_line : List ℕ → List ℕ → List ℕ → List ℕ → List ℕ
 fault_line file line column cause = joined (file ∷ codes ":" ∷ line ∷ codes ":" ∷ column ∷ codes ": outside: " ∷ cause ∷ codes "\n" ∷ [])
 
+-- the policy lies outside the profile, at the first byte of the span
 abbrev pub outside_line : List ℕ → List ℕ → Span → Cause → List ℕ
 outside_line file text span cause = fault_line file (decimal (line_of text span.start)) (decimal (column_of text span.start)) (cause_name cause)
 
+-- the file cannot be fetched
 abbrev pub unread_line : List ℕ → List ℕ
 unread_line file = joined (file ∷ codes ": cannot be read\n" ∷ [])
 
+-- the file has more bytes than are taken
 abbrev pub too_long_line : List ℕ → List ℕ
 too_long_line file = joined (file ∷ codes ": longer than 16777216 bytes\n" ∷ [])
 
+-- the result cannot be put out
 abbrev pub unwritten_line : List ℕ
 unwritten_line = codes "output cannot be written\n"
 
+-- want of memory
 abbrev pub memory_line : List ℕ
 memory_line = codes "out of memory\n"
 

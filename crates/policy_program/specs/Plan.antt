@@ -19,7 +19,7 @@ use Rattle.ios_reader.specs.declared.item.PrefixListEntry.{PrefixListEntry}
 use Rattle.ios_reader.specs.declared.item.MapLine.{MapLine}
 use Rattle.ios_reader.specs.declared.item.MapLine.TheVariants.{MatchPrefix, SetLocalPreference}
 use Rattle.ios_reader.specs.declared.item.IosForm.{IosForm}
-use Rattle.ios_reader.specs.declared.item.IosForm.TheVariants.{PrefixEntry, PrefixDescription, CommunityEntry, MapHeader, Line, Other}
+use Rattle.ios_reader.specs.declared.item.IosForm.TheVariants.{PrefixEntry, PrefixDescription, CommunityEntry, PathEntry, MapHeader, Line, Other}
 use Rattle.ios_reader.specs.declared.item.IosItem.{IosItem}
 use Rattle.ios_reader.specs.Entries.{Entry}
 use Rattle.ios_meaning.specs.Lists.{prefix_list}
@@ -37,10 +37,12 @@ abbrev pub IsPlainForm : IosForm → Type 0
 IsPlainForm (PrefixEntry e) = IsPlainRange e.entry.range
 IsPlainForm (PrefixDescription d) = Unit {0}
 IsPlainForm (CommunityEntry e) = Unit {0}
+IsPlainForm (PathEntry e) = Unit {0}
 IsPlainForm (MapHeader h) = Unit {0}
 IsPlainForm (Line l) = IsPlainLine l
 IsPlainForm (Other o) = Unit {0}
 
+-- an item of such a form
 abbrev pub HasPlainForm : IosItem → Type 0
 HasPlainForm i = IsPlainForm i.form
 
@@ -51,9 +53,11 @@ pub record Plain : Type 0 where
   pub guard : Option (List ℕ)
   pub preferences : List ℕ
 
+-- an entry as it lies in memory, without that
 abbrev pub entry_view : PlainEntry → Plain
 entry_view e = record { number = e.number; permit = e.permit; guard = option_map (λ name. name.now) e.guard; preferences = e.preferences.items }
 
+-- entries without where their parts lie
 abbrev pub entry_views : List PlainEntry → List Plain
 entry_views es = map entry_view es
 
@@ -62,19 +66,22 @@ abbrev pub first_name : List (List ℕ) → Option (List ℕ) → Option (List �
 first_name [] rest = rest
 first_name (name ∷ names) rest = Some name
 
+-- the name that a line gives, or else that of the lines behind it
 abbrev pub guard_from : MapLine → Option (List ℕ) → Option (List ℕ)
 guard_from (MatchPrefix m) rest = first_name m.lists rest
 guard_from _ rest = rest
 
+-- the name that the lines of an entry give
 abbrev pub guard_of : List MapLine → Option (List ℕ)
 guard_of [] = None
 guard_of (l ∷ ls) = guard_from l (guard_of ls)
 
--- the local preferences that lines set
+-- the local preference that a line sets, before those behind it
 abbrev pub preference_from : MapLine → List ℕ → List ℕ
 preference_from (SetLocalPreference n) rest = n ∷ rest
 preference_from _ rest = rest
 
+-- those of the lines of an entry, in their order
 abbrev pub preferences_of : List MapLine → List ℕ
 preferences_of [] = []
 preferences_of (l ∷ ls) = preference_from l (preferences_of ls)
@@ -83,18 +90,21 @@ preferences_of (l ∷ ls) = preference_from l (preferences_of ls)
 abbrev pub plain_entry : Entry → Plain
 plain_entry e = record { number = e.number; permit = e.permit; guard = guard_of e.lines; preferences = preferences_of e.lines }
 
+-- the entries of the map as plain ones
 abbrev pub plain_entries : List Entry → List Plain
 plain_entries es = map plain_entry es
 
--- the entries of all prefix lists
+-- an item as an entry of a prefix list, before those behind it
 abbrev pub list_entry_from : IosForm → List PrefixListEntry → List PrefixListEntry
 list_entry_from (PrefixEntry e) rest = e ∷ rest
 list_entry_from (PrefixDescription d) rest = rest
 list_entry_from (CommunityEntry e) rest = rest
+list_entry_from (PathEntry e) rest = rest
 list_entry_from (MapHeader h) rest = rest
 list_entry_from (Line l) rest = rest
 list_entry_from (Other o) rest = rest
 
+-- the entries of all prefix lists, in text order
 abbrev pub list_entries : List IosItem → List PrefixListEntry
 list_entries [] = []
 list_entries (i ∷ is) = list_entry_from i.form (list_entries is)

@@ -8,12 +8,14 @@ use Rattle.policy_program.specs.declared.refusal.Refusal.TheVariants.{NoPolicy, 
 use Rattle.policy_program.specs.declared.status.Status.{Status}
 use Rattle.policy_program.specs.declared.status.Status.TheVariants.{NoPolicy as EndsNoPolicy, Outside as EndsOutside, Memory as EndsMemory, RouteRefused}
 
+-- the status of a refusal
 abbrev pub refusal_status : Refusal → Status
 refusal_status NoPolicy = EndsNoPolicy
 refusal_status (Outside span cause) = EndsOutside
 refusal_status (Route line) = RouteRefused
 refusal_status Memory = EndsMemory
 
+-- its line on `err`
 abbrev pub refusal_line : Request → List ℕ → Refusal → List ℕ
 refusal_line q source NoPolicy = no_policy_line (file_of q) (policy_of q)
 refusal_line q source (Outside span cause) = outside_line (file_of q) source span cause

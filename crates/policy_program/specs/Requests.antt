@@ -41,6 +41,7 @@ abbrev pub Serves : Request → List ℕ → Type 0
 Serves (Translate t) second = Unit {0}
 Serves (Judge j) second = (r : RouteParts) × SpellsRoute second r
 
+-- there is a result: the policy has no fault, and the second text serves
 pub record HasResult (q : Request) (source second : List ℕ) : Type 0 where
   pub sound : IsSound (taken_by q) source (policy_of q)
   pub serves : Serves q second

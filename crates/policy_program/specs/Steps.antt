@@ -13,6 +13,7 @@ step_of s = record { guard = s.guard; preferences = s.preferences.now; accept = 
 abbrev pub contents : List (Bor (List RangeParts)) → List (List RangeParts)
 contents sets = map (λ s. s.now) sets
 
+-- steps without where their numbers lie in memory
 abbrev pub steps_of : List Step → List Written
 steps_of ss = map step_of ss
 

@@ -39,6 +39,7 @@ fn is_line(form: &IosForm) -> bool
         IosForm::PrefixEntry(_)
         | IosForm::PrefixDescription(_)
         | IosForm::CommunityEntry(_)
+        | IosForm::PathEntry(_)
         | IosForm::MapHeader(_) => false,
         IosForm::Line(_) => true,
         IosForm::Other(other) => match other.sort {

@@ -5,6 +5,7 @@ use std::alloc::AllocError;
 use std::test::Fail;
 
 mod causes;
+mod edge;
 mod judge;
 mod refusals;
 mod texts;

@@ -1,4 +1,7 @@
--- How the forms of statements are made, in all three languages: certain words first, then values.
+-- How the forms of statements are made, in all three languages: certain words first, then values. `Each` says
+-- that words and values agree one by one; `each` gives the values of all words, where each has one.
+pub use Rattle.route_types.specs.RouteText.{Each}
+unfoldable pub use Rattle.route_types.specs.RouteLines.{each_in as each}
 use Rattle.std.specs.Prelude.{ℕ, true, false, List, [], ◌∷◌, ◌++◌, Option, Some, None, bytes_eq, map}
 use Rattle.route_types.specs.Words.{◌>>=◌, when}
 use Rattle.policy_text.specs.Names.{is_name}
@@ -20,14 +23,6 @@ only f [] = None
 only f (w ∷ []) = f w
 only f (v ∷ w ∷ ws) = None
 
--- the values of all words, where each has one
-unfoldable pub each : {A : Type 0} → (List ℕ → Option A) → List (List ℕ) → Option (List A)
-each f [] = Some []
-each f (w ∷ ws) = do
-  x ← f w
-  xs ← each f ws
-  Some (x ∷ xs)
-
 -- the walk over the words: the values found so far, and behind them those of the words
 unfoldable pub each_onto : {A : Type 0} → (List ℕ → Option A) → List A → List (List ℕ) → Option (List A)
 each_onto f found [] = Some found
@@ -41,10 +36,3 @@ some_each f (w ∷ ws) = each f (w ∷ ws)
 -- the name that a word is
 abbrev pub name_in : List ℕ → Option (List ℕ)
 name_in w = when (is_name w) w
-
--- the words and the values agree one by one
-abbrev pub Each : {A : Type 0} → (List ℕ → A → Type 0) → List (List ℕ) → List A → Type 0
-Each P [] [] = Unit {0}
-Each P [] (x ∷ xs) = ⊥
-Each P (w ∷ ws) [] = ⊥
-Each P (w ∷ ws) (x ∷ xs) = P w x × Each P ws xs

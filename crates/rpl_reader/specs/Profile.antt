@@ -13,7 +13,7 @@ use Rattle.rpl_reader.specs.declared.item.RplForm.{RplForm}
 use Rattle.rpl_reader.specs.declared.item.RplForm.TheVariants.{PrefixSet, Element, RoutePolicy, If, EndIf, SetLocalPreference, Done, Drop, End, Other}
 use Rattle.rpl_reader.specs.declared.item.RplTest.TheVariants.{Destination}
 
--- what a header that spells no form would define
+-- a header that spells no form would open a set
 abbrev pub would_open_set : Option BlockKind → Bool
 would_open_set None = false
 would_open_set (Some PrefixSetKind) = true
@@ -21,6 +21,7 @@ would_open_set (Some CommunitySet) = false
 would_open_set (Some PathSet) = false
 would_open_set (Some Policy) = false
 
+-- a header that spells no form would open a policy
 abbrev pub would_open_policy : Option BlockKind → Bool
 would_open_policy None = false
 would_open_policy (Some PrefixSetKind) = false
@@ -72,6 +73,7 @@ is_header Drop = false
 is_header End = false
 is_header (Other o) = is_some_kind o.opens false
 
+-- the form ends a block
 abbrev pub is_end : RplForm → Bool
 is_end (PrefixSet n) = false
 is_end (Element r) = false
@@ -186,6 +188,7 @@ cause_at all before f =
     (first_some (when (names_missing all f) Undefined)
     (when (is_too_deep before f) TooDeep)))
 
+-- the fault of a form, where it is reached
 abbrev pub fault_at : List ℕ → List RplForm → List RplForm → RplForm → Option Cause
 fault_at name all before f = elim (reached name all before f) [ true ↦ cause_at all before f | false ↦ None ]
 

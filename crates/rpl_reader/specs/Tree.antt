@@ -73,22 +73,24 @@ abbrev pub begins : List ℕ → List Word → Bool
 begins key [] = false
 begins key (w ∷ ws) = is_word key w
 
--- the `if`s that are open behind a statement of a policy, each with whether its `else` has come; None
--- where the statement is out of its place
+-- the open `if`s, each with whether its `else` has come: an `elseif` goes on with the innermost
 abbrev pub branch_again : List Bool → Option (List Bool)
 branch_again [] = None
 branch_again (true ∷ ifs) = None
 branch_again (false ∷ ifs) = Some (false ∷ ifs)
 
+-- an `else` is the last branch of the innermost
 abbrev pub branch_last : List Bool → Option (List Bool)
 branch_last [] = None
 branch_last (true ∷ ifs) = None
 branch_last (false ∷ ifs) = Some (true ∷ ifs)
 
+-- an `endif` closes the innermost
 abbrev pub branch_closed : List Bool → Option (List Bool)
 branch_closed [] = None
 branch_closed (b ∷ ifs) = Some ifs
 
+-- the `if`s that are open behind a statement of a policy; None where it is out of its place
 abbrev pub ifs_behind : List Word → List Bool → Option (List Bool)
 ifs_behind ws ifs = elim (begins (codes "if") ws) [
   | true ↦ Some (false ∷ ifs)

@@ -1,0 +1,11 @@
+use Rattle.std.proofs.Common.{◌≡◌, length}
+use Rattle.policy_text.specs.Phrases.{each_onto}
+use Rattle.aspath_text.specs.IosRead.{piece_in}
+use Rattle.aspath_text.specs.IosWalk.{parts_behind}
+use Rattle.aspath_text.proofs.ios_read.later_pieces.Given as goal
+
+abbrev pub invariant-loop-part : goal.invariant-loop-part
+invariant-loop-part l = each_onto piece_in l.found (parts_behind 95 l.rest) ≡ each_onto piece_in l.fn.before (parts_behind 95 l.text)
+
+abbrev pub decreases-loop-part : goal.decreases-loop-part
+decreases-loop-part l = length l.rest

@@ -1,0 +1,109 @@
+-- The first fault of small trees, which the checker computes: one for each cause, and path lists.
+use Rattle.std.proofs.Common.{◌≡◌, refl, List, [], ◌∷◌, ◌+◌, ℕ, Bool, true, false}
+use Rattle.std.specs.Prelude.{Some, None, Option, codes}
+use Rattle.policy_text.specs.declared.statement.Span.{Span}
+use Rattle.policy_text.specs.declared.fault.Cause.{Cause}
+use Rattle.policy_text.specs.declared.fault.Cause.TheVariants.{UnknownForm, DefinedTwice, SequenceTwice, Undefined, SameKindTwice, BackwardContinue, DenyContinue, UnsettledTest, ExactExpanded}
+use Rattle.aspath_text.specs.declared.pattern.IosBranch.TheVariants.{EmptyPath}
+use Rattle.ios_reader.specs.Profile.{first_fault, first_fault_within}
+use Rattle.ios_reader.specs.declared.item.IosForm.{IosForm}
+use Rattle.ios_reader.specs.declared.item.IosForm.TheVariants.{CommunityEntry, PathEntry, MapHeader, Line, Other}
+use Rattle.ios_reader.specs.declared.item.CommunityShape.{CommunityShape}
+use Rattle.ios_reader.specs.declared.item.CommunityShape.TheVariants.{Standard, Expanded}
+use Rattle.ios_reader.specs.declared.item.ItemSort.{ItemSort}
+use Rattle.ios_reader.specs.declared.item.ItemSort.TheVariants.{PathList}
+use Rattle.ios_reader.specs.declared.item.ItemSort.TheVariants.{Line as LineSort}
+use Rattle.ios_reader.specs.declared.item.IosItem.{IosItem}
+use Rattle.ios_reader.specs.declared.item.MapLine.{MapLine}
+use Rattle.ios_reader.specs.declared.item.MapLine.TheVariants.{MatchCommunity, MatchPath, SetMetric, SetPrepend, Continue}
+
+-- the statement at a place
+abbrev span : ℕ → Span
+span n = record { start = n; end = n + 1 }
+
+abbrev item : ℕ → IosForm → IosItem
+item n form = record { form = form; span = span n }
+
+-- forms of a policy IN and of its lists C and 10
+abbrev header : Bool → ℕ → IosForm
+header permit n = MapHeader (record { map = codes "IN"; permit = permit; number = n })
+
+abbrev communities : CommunityShape → IosForm
+communities shape = CommunityEntry (record { list = codes "C"; permit = true; shape = shape })
+
+abbrev standard : CommunityShape
+standard = Standard (record { 0 = 4259905537 } ∷ [])
+
+abbrev expanded : CommunityShape
+expanded = Expanded (record { high_least = 65001; high_most = 65001; low_least = 0; low_most = 65535 })
+
+abbrev has_communities : Bool → MapLine
+has_communities exact = MatchCommunity (record { lists = codes "C" ∷ []; exact = exact })
+
+abbrev empty_path : IosForm
+empty_path = PathEntry (record { list = codes "10"; permit = true; pattern = EmptyPath ∷ [] })
+
+abbrev has_path : MapLine
+has_path = MatchPath (record { lists = codes "10" ∷ [] })
+
+abbrev no_form : ItemSort → Option (List ℕ) → IosForm
+no_form sort name = Other (record { sort = sort; name = name })
+
+-- the first fault of IN
+abbrev fault : List IosItem → Option (Span × Cause)
+fault items = first_fault (codes "IN") items
+
+-- ---- one for each cause
+
+unknown_form : fault (item 0 (header true 10) ∷ item 1 (no_form LineSort None) ∷ []) ≡ Some (span 1, UnknownForm)
+unfolding first_fault_within
+unknown_form = refl
+
+defined_twice : fault (item 0 (communities standard) ∷ item 1 (communities expanded) ∷ item 2 (header true 10) ∷ item 3 (Line (has_communities false)) ∷ []) ≡ Some (span 1, DefinedTwice)
+unfolding first_fault_within
+defined_twice = refl
+
+sequence_twice : fault (item 0 (header true 10) ∷ item 1 (header false 10) ∷ []) ≡ Some (span 1, SequenceTwice)
+unfolding first_fault_within
+sequence_twice = refl
+
+undefined : fault (item 0 (header true 10) ∷ item 1 (Line has_path) ∷ []) ≡ Some (span 1, Undefined)
+unfolding first_fault_within
+undefined = refl
+
+same_kind_twice : fault (item 0 (empty_path) ∷ item 1 (header true 10) ∷ item 2 (Line has_path) ∷ item 3 (Line has_path) ∷ []) ≡ Some (span 3, SameKindTwice)
+unfolding first_fault_within
+same_kind_twice = refl
+
+backward_continue : fault (item 0 (header true 10) ∷ item 1 (Line (Continue (Some 10))) ∷ []) ≡ Some (span 1, BackwardContinue)
+unfolding first_fault_within
+backward_continue = refl
+
+deny_continue : fault (item 0 (header false 10) ∷ item 1 (Line (Continue None)) ∷ []) ≡ Some (span 1, DenyContinue)
+unfolding first_fault_within
+deny_continue = refl
+
+unsettled_test : fault (item 0 empty_path ∷ item 1 (header true 10) ∷ item 2 (Line (SetPrepend (65001 ∷ []))) ∷ item 3 (Line (Continue None)) ∷ item 4 (header true 20) ∷ item 5 (Line has_path) ∷ []) ≡ Some (span 5, UnsettledTest)
+unfolding first_fault_within
+unsettled_test = refl
+
+exact_expanded : fault (item 0 (communities expanded) ∷ item 1 (header true 10) ∷ item 2 (Line (has_communities true)) ∷ []) ≡ Some (span 2, ExactExpanded)
+unfolding first_fault_within
+exact_expanded = refl
+
+-- ---- path lists
+
+-- an entry of no form is there, and its list is reached by the line that names it
+path_of_no_form : fault (item 0 (no_form PathList (Some (codes "10"))) ∷ item 1 (header true 10) ∷ item 2 (Line has_path) ∷ []) ≡ Some (span 0, UnknownForm)
+unfolding first_fault_within
+path_of_no_form = refl
+
+-- a list that no line names isn't reached
+path_not_reached : fault (item 0 (no_form PathList (Some (codes "10"))) ∷ item 1 (header true 10) ∷ []) ≡ None
+unfolding first_fault_within
+path_not_reached = refl
+
+-- a path test is settled where another attribute is set
+path_settled : fault (item 0 empty_path ∷ item 1 (header true 10) ∷ item 2 (Line (SetMetric 5)) ∷ item 3 (Line (Continue None)) ∷ item 4 (header true 20) ∷ item 5 (Line has_path) ∷ []) ≡ None
+unfolding first_fault_within
+path_settled = refl
