@@ -20,7 +20,8 @@ use Rattle.aspath_text.specs.declared.pattern.Piece.TheVariants.{Anything, Set}
 use Rattle.aspath_text.specs.declared.pattern.Tail.{Tail}
 use Rattle.aspath_text.proofs.IosReadCuts.{parts_split}
 use Rattle.aspath_text.proofs.IosReadFound.{joined_onto, joined_parts}
-use Rattle.aspath_text.proofs.IosReadFoundWords.{same_bytes, many, set_found, tail_found}
+use Rattle.aspath_text.proofs.IosReadFoundWords.{many, set_found, tail_found}
+use Rattle.aspath_text.proofs.Lists.{same_bytes}
 use Rattle.aspath_text.proofs.IosReadShaped.{each_all, piece_shaped}
 
 -- ---- pieces

@@ -3,12 +3,12 @@ use Rattle.std.proofs.Common.{◌≡◌, refl, sym, ap, ◌∙◌, subst, ℕ, z
 use Rattle.std.specs.Prelude.{◌==◌, codes, bytes_eq}
 use Rattle.std.specs.List.{concat}
 use Rattle.std.proofs.lemmas.Bool.{eqb-true}
-use Rattle.std.proofs.lemmas.Slice.Eq.{bytes_eq-Decides}
 use Rattle.route_types.specs.RouteText.{Each}
 use Rattle.route_types.specs.Words.{◌>>=◌, is_digit, when, parts_at}
 use Rattle.route_types.proofs.Numbers.{bind_found, some_is, digit_range}
 use Rattle.route_types.proofs.Spelled.{ap2, parts_at_found}
 use Rattle.policy_text.proofs.Phrases.{each_found, when_found}
+use Rattle.aspath_text.proofs.Lists.{same_bytes}
 use Rattle.aspath_text.specs.IosGrammar.{SpellsDigitSet, SpellsWord, SpellsSet, SpellsTail, repeat_sign}
 use Rattle.aspath_text.specs.IosRead.{parts_by, cut_at, class_in, set_at, sets_in, digits_in, word_in, grouped, lone, set_in, repeat_in, repeated, tail_in}
 use Rattle.aspath_text.specs.declared.pattern.DigitWord.{DigitWord}
@@ -19,9 +19,6 @@ use Rattle.aspath_text.specs.declared.pattern.Repeat.{Repeat}
 use Rattle.aspath_text.specs.declared.pattern.Repeat.TheVariants.{Star, Plus, Maybe}
 use Rattle.aspath_text.proofs.IosReadCuts.{parts_split}
 use Rattle.aspath_text.proofs.IosReadFound.{joined_parts, cut_found, class_found, some_parts}
-
-pub same_bytes : (a b : List ℕ) → bytes_eq a b ≡ true → a ≡ b
-same_bytes a b e = (bytes_eq-Decides a b).0 e
 
 -- ---- digits and classes
 

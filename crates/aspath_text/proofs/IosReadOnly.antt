@@ -19,7 +19,7 @@ use Rattle.aspath_text.specs.declared.pattern.PathPieces.{PathPieces}
 use Rattle.aspath_text.specs.declared.pattern.Piece.{Piece}
 use Rattle.aspath_text.specs.declared.pattern.Piece.TheVariants.{Anything, Set}
 use Rattle.aspath_text.proofs.IosReadFoundPieces.{led, joined_led}
-use Rattle.aspath_text.proofs.IosReadFoundWords.{same_bytes}
+use Rattle.aspath_text.proofs.Lists.{same_bytes}
 use Rattle.aspath_text.proofs.IosReadOnlyPieces.{parts_of_joined, as_many, piece_only}
 use Rattle.aspath_text.proofs.IosReadPassed.{each_text, piece_passes}
 use Rattle.aspath_text.proofs.IosReadPasses.{Passes, AllPass, passes_append, plain_passes, under_cuts, bar_cuts}

@@ -16,7 +16,7 @@ use Rattle.aspath_text.specs.declared.pattern.Tail.{Tail}
 use Rattle.aspath_text.specs.declared.pattern.Repeat.{Repeat}
 use Rattle.aspath_text.specs.declared.pattern.Repeat.TheVariants.{Star, Plus, Maybe}
 use Rattle.aspath_text.proofs.IosReadFoundPieces.{led, joined_led}
-use Rattle.aspath_text.proofs.IosReadFoundWords.{same_bytes}
+use Rattle.aspath_text.proofs.Lists.{same_bytes}
 use Rattle.aspath_text.proofs.IosReadOnlyWords.{word_only}
 use Rattle.aspath_text.proofs.IosReadPassed.{each_text, words_pass, set_passes, set_inner, are_led, tails_pass_each}
 use Rattle.aspath_text.proofs.IosReadPasses.{Passes, AllPass, AllPlain, is_plain, plain_is, plain_passes, parts_spelled, cut_spelled, word_plain, bar_cuts, closing_cuts}

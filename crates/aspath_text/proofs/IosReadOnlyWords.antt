@@ -14,7 +14,7 @@ use Rattle.aspath_text.specs.declared.pattern.DigitWord.{DigitWord}
 use Rattle.aspath_text.specs.declared.pattern.DigitWord.TheVariants.{Any, Digits}
 use Rattle.aspath_text.specs.declared.pattern.DigitSet.{DigitSet}
 use Rattle.aspath_text.proofs.IosReadBits.{all_bits, run_bits, set_of_is}
-use Rattle.aspath_text.proofs.IosReadFoundWords.{same_bytes}
+use Rattle.aspath_text.proofs.Lists.{same_bytes}
 use Rattle.aspath_text.proofs.IosReadShaped.{runs_are_digits}
 
 -- ---- classes

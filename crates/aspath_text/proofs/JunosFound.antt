@@ -4,7 +4,6 @@ use Rattle.std.specs.Prelude.{◌==◌, codes, bytes_eq, nat_le}
 use Rattle.std.specs.List.{list_all, position_or_len}
 use Rattle.std.proofs.lemmas.Bool.{eqb-true, leb-true, and_from}
 use Rattle.std.proofs.lemmas.List.{take-append-drop, nil_from_length}
-use Rattle.std.proofs.lemmas.Slice.Eq.{bytes_eq-Decides}
 use Rattle.route_types.specs.Text.{is_blank}
 use Rattle.route_types.specs.RouteText.{onto_word, Each}
 use Rattle.route_types.specs.Words.{parts_at, number_in, IsNumber}
@@ -12,6 +11,7 @@ use Rattle.route_types.proofs.Numbers.{some_is, bind_found, number_in_found}
 use Rattle.route_types.proofs.Spelled.{parts_at_found, ap2}
 use Rattle.policy_text.specs.Phrases.{each, Each as Agree}
 use Rattle.policy_text.proofs.Phrases.{when_found, each_found}
+use Rattle.aspath_text.proofs.Lists.{same_bytes}
 use Rattle.aspath_text.specs.IosGrammar.{joined_by}
 use Rattle.aspath_text.specs.Items.{greatest}
 use Rattle.aspath_text.specs.JunosGrammar.{AreBlanks, SpellsRange, SpellsMember, SpellsCount, SpellsItem, AreSpaced, SpellsItems}
@@ -20,9 +20,6 @@ use Rattle.aspath_text.specs.declared.items.NumberRange.{NumberRange}
 use Rattle.aspath_text.specs.declared.items.TokenItem.{TokenItem}
 use Rattle.aspath_text.specs.declared.junos_words.Count.{Count}
 use Rattle.aspath_text.proofs.JunosCut.{texts_step, blanks_step, items_behind, items_step, blank_is, behind_blank, one_blank}
-
-pub same_bytes : (a b : List ℕ) → bytes_eq a b ≡ true → a ≡ b
-same_bytes a b e = (bytes_eq-Decides a b).0 e
 
 -- ---- ranges and members
 

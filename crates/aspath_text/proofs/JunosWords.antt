@@ -15,7 +15,7 @@ use Rattle.aspath_text.specs.JunosRead.{ends_in, range_in, behind_blanks, range_
 use Rattle.aspath_text.specs.declared.items.NumberRange.{NumberRange}
 use Rattle.aspath_text.specs.declared.junos_words.Count.{Count}
 use Rattle.aspath_text.proofs.JunosCut.{parts_step, blanks_step, one_blank}
-use Rattle.aspath_text.proofs.JunosFound.{same_bytes}
+use Rattle.aspath_text.proofs.Lists.{same_bytes}
 use Rattle.aspath_text.proofs.JunosBytes.{NoDigit, below_digits, above_digits, blank_digit, is_break, break_digit, small, number_avoids, dash_avoids, range_avoids, range_some, append_avoids, stops, place_behind}
 
 -- ---- ranges

@@ -2,6 +2,8 @@ pub mod Lists
 pub mod FindsTurns
 pub mod FindsFound
 mod SearchExamples
+mod ReadExamples
+mod ItemsExamples
 pub mod PathText
 pub mod SpansNumbers
 pub mod SpansTails

@@ -1,8 +1,10 @@
--- What holds of each element of a list, and the first element of a list that has one.
-use Rattle.std.proofs.Common.{◌≡◌, Bool, sym, ap, ◌∙◌, ℕ, zero, suc, ◌-◌, ◌≤◌, List, [], ◌∷◌, ◌++◌, length, get_or, take, drop, map, replicate, append_assoc, arith}
+-- What holds of each element of a list, the first element of a list that has one, and equal bytes.
+use Rattle.std.proofs.Common.{◌≡◌, Bool, true, sym, ap, ◌∙◌, ℕ, zero, suc, ◌-◌, ◌≤◌, List, [], ◌∷◌, ◌++◌, length, get_or, take, drop, map, replicate, append_assoc, arith}
+use Rattle.std.specs.Prelude.{bytes_eq}
 use Rattle.std.specs.Bool.{Decides}
 use Rattle.std.specs.List.{list_any, AllByRecursion}
 use Rattle.std.proofs.lemmas.Bool.Decides.{Decides-or}
+use Rattle.std.proofs.lemmas.Slice.Eq.{bytes_eq-Decides}
 use Rattle.std.proofs.lemmas.List.{take_all, length-drop, map-append}
 use Rattle.route_types.specs.RouteText.{Each}
 use Rattle.aspath_text.specs.Items.{SomeOf}
@@ -60,3 +62,7 @@ each_spelled P Spells f law (x ∷ xs) h = (law x h.0, each_spelled P Spells f l
 -- the same by two things that hold of each element
 pub each_of_both : {A : Type 0} (P Q : A → Type 0) (Spells : List ℕ → A → Type 0) (f : A → List ℕ) → ((x : A) → P x → Q x → Spells (f x) x) → (xs : List A) → AllByRecursion P xs → AllByRecursion Q xs → Each Spells (map f xs) xs
 each_of_both P Q Spells f law xs p q = each_spelled (λ x. P x × Q x) Spells f (λ x h. law x h.0 h.1) xs (all_pairs P Q xs p q)
+
+-- bytes that compare equal are equal
+pub same_bytes : (a b : List ℕ) → bytes_eq a b ≡ true → a ≡ b
+same_bytes a b e = (bytes_eq-Decides a b).0 e
