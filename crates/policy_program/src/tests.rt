@@ -37,6 +37,13 @@ fn unfailing<'a>(words: &'a [&'a str], held: &'a str, text: &'a [u8]) -> Case<'a
     }
 }
 
+/// The words of a judge.
+fn seven<'a>(policy: &'a str, file: &'a str, route_file: &'a str) -> [&'a str; 7] {
+    [
+        "judge", "--from", "ios", "--policy", policy, file, route_file,
+    ]
+}
+
 /// The ten words.
 fn ten<'a>(policy: &'a str, name: &'a str, file: &'a str) -> [&'a str; 10] {
     [

@@ -66,14 +66,12 @@ weight 0
 communities 65000:100
 ";
 
-/// Whether CUST makes this of a route.
-fn makes(alloc: Global, route: &str, outcome: &str) -> bool {
-    let words = [
-        "judge", "--from", "ios", "--policy", "CUST", "edge.cfg", "r.txt",
-    ];
+/// Whether CUST of this configuration makes this of a route.
+fn makes(alloc: Global, source: &[u8], route: &[u8], outcome: &str) -> bool {
+    let words = seven("CUST", "edge.cfg", "r.txt");
     let case = Case {
-        second: Some(("r.txt", route.as_bytes())),
-        ..unfailing(words.as_slice(), "edge.cfg", EDGE.as_bytes())
+        second: Some(("r.txt", route)),
+        ..unfailing(words.as_slice(), "edge.cfg", source)
     };
     ends(alloc, &case, Status::Done, outcome.as_bytes(), b"")
 }
@@ -104,7 +102,11 @@ communities
         (other_path, "reject\n"),
     ];
     for (route, outcome) in rows {
-        assert!(rt; makes(rt.alloc(), route, outcome), "{route}");
+        let source = EDGE.as_bytes();
+        assert!(rt;
+            makes(rt.alloc(), source, route.as_bytes(), outcome),
+            "{route}"
+        );
     }
 }
 

@@ -1,13 +1,6 @@
 // Runs of judge: outcomes, refused route files, and the second fetch.
 use super::*;
 
-/// The words of a judge.
-fn seven<'a>(policy: &'a str, file: &'a str, route_file: &'a str) -> [&'a str; 7] {
-    [
-        "judge", "--from", "ios", "--policy", policy, file, route_file,
-    ]
-}
-
 /// Whether IN on this route text ends with this status, these bytes on `out` and these on `err`.
 fn judges(
     alloc: Global,
