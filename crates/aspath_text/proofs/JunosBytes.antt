@@ -5,7 +5,7 @@ use Rattle.std.specs.List.{list_any, list_all, position_or_len}
 use Rattle.std.proofs.lemmas.Bool.{eqb-true, ne_eqb, or_from, or_parts, or_cases, and_parts}
 use Rattle.std.proofs.lemmas.List.{length-append}
 use Rattle.std.proofs.lemmas.List.Folds.{list_any-append}
-use Rattle.route_types.specs.Text.{is_blank}
+use Rattle.text_words.specs.Text.{is_blank}
 use Rattle.route_types.specs.RouteText.{Each}
 use Rattle.route_types.proofs.Numbers.{decimal_avoids}
 use Rattle.std.proofs.lemmas.Fmt.{decimal_nonempty}

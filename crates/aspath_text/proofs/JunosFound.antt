@@ -4,7 +4,7 @@ use Rattle.std.specs.Prelude.{◌==◌, codes, bytes_eq, nat_le}
 use Rattle.std.specs.List.{list_all, position_or_len}
 use Rattle.std.proofs.lemmas.Bool.{eqb-true, leb-true, and_from}
 use Rattle.std.proofs.lemmas.List.{take-append-drop, nil_from_length}
-use Rattle.route_types.specs.Text.{is_blank}
+use Rattle.text_words.specs.Text.{is_blank}
 use Rattle.route_types.specs.RouteText.{onto_word, Each}
 use Rattle.route_types.specs.Words.{parts_at, number_in, IsNumber}
 use Rattle.route_types.proofs.Numbers.{some_is, bind_found, number_in_found}

@@ -4,7 +4,7 @@ use Rattle.std.specs.Prelude.{◌==◌, decimal, codes, bytes_eq, nat_le}
 use Rattle.std.specs.List.{list_any, list_all, position_or_len}
 use Rattle.std.proofs.lemmas.Bool.{le-leb, or_parts, and_parts, false_from_ne_true, true≢false}
 use Rattle.std.proofs.lemmas.List.{take_at, drop_at, length-append}
-use Rattle.route_types.specs.Text.{is_blank}
+use Rattle.text_words.specs.Text.{is_blank}
 use Rattle.route_types.specs.Words.{parts_at, number_in, when, ◌>>=◌}
 use Rattle.route_types.proofs.Numbers.{number_in_spelled, when_true}
 use Rattle.route_types.proofs.Spelled.{parts_at_behind, ap2}

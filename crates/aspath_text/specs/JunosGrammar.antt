@@ -2,7 +2,7 @@
 -- expressions'): which text spells which pattern.
 use Rattle.std.specs.Prelude.{◌≡◌, ℕ, ◌≤◌, true, List, [], ◌∷◌, ◌++◌, Some, None, Option, length, codes, decimal, ◌⊎◌}
 use Rattle.std.specs.List.{list_all}
-use Rattle.route_types.specs.Text.{is_blank}
+use Rattle.text_words.specs.Text.{is_blank}
 use Rattle.route_types.specs.Words.{IsNumber}
 use Rattle.route_types.specs.RouteText.{Each}
 use Rattle.aspath_text.specs.Items.{greatest}

@@ -2,7 +2,7 @@
 -- outside its groups, an item into its set and its count, and a group into its members at `|`.
 use Rattle.std.specs.Prelude.{ℕ, Bool, true, false, not, ◌&&◌, ◌||◌, nat_le, ◌==◌, List, [], ◌∷◌, length, take, drop, Option, Some, None, codes, bytes_eq}
 use Rattle.std.specs.List.{list_all, position_or_len}
-use Rattle.route_types.specs.Text.{is_blank}
+use Rattle.text_words.specs.Text.{is_blank}
 use Rattle.route_types.specs.RouteText.{onto_word}
 use Rattle.route_types.specs.Words.{◌>>=◌, when, number_in, parts_at}
 use Rattle.policy_text.specs.Phrases.{each}

@@ -7,9 +7,9 @@ use Rattle.std.proofs.lemmas.Bool.{le-ltb, lt-ltb}
 use Rattle.route_types.specs.Community.{RectParts, fits}
 use Rattle.route_types.specs.declared.community.Community.{Community}
 use Rattle.community_sets.specs.Tests.{test_holds}
-use Rattle.ios_reader.specs.declared.item.CommunityListEntry.{CommunityListEntry}
-use Rattle.ios_reader.specs.declared.item.CommunityShape.{CommunityShape}
-use Rattle.ios_reader.specs.declared.item.CommunityShape.TheVariants.{Standard, Expanded}
+use Rattle.ios_tree.specs.declared.item.CommunityListEntry.{CommunityListEntry}
+use Rattle.ios_tree.specs.declared.item.CommunityShape.{CommunityShape}
+use Rattle.ios_tree.specs.declared.item.CommunityShape.TheVariants.{Standard, Expanded}
 use Rattle.ios_meaning.specs.Lists.{test_of}
 use Rattle.ios_meaning.specs.Drafts.{answers_alone}
 use Rattle.ios_meaning.specs.Deletions.{is_one, is_all, reach_of_one_high, reach_of_all_highs, reach_of_rect, reach_of_members, reach_of, reaches, has_key, is_other, in_place, first_answer, answer_from, earlier, answer_at, answer_on, IsIndex}

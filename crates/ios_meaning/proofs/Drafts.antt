@@ -15,12 +15,12 @@ use Rattle.route_types.proofs.Sets.{set_of_ascending, has-set_of, ascending_same
 use Rattle.community_sets.specs.Tests.{test_holds, list_answers}
 use Rattle.community_sets.specs.declared.list.CommEntry.{CommEntry}
 use Rattle.ios_reader.specs.Entries.{Entry}
-use Rattle.ios_reader.specs.declared.item.CommunityListEntry.{CommunityListEntry}
-use Rattle.ios_reader.specs.declared.item.IosForm.{IosForm}
-use Rattle.ios_reader.specs.declared.item.IosForm.TheVariants.{PrefixEntry as OfPrefixList, PrefixDescription, CommunityEntry as OfCommunityList, PathEntry as OfPathList, MapHeader, Line, Other}
-use Rattle.ios_reader.specs.declared.item.IosItem.{IosItem}
-use Rattle.ios_reader.specs.declared.item.MapLine.{MapLine}
-use Rattle.ios_reader.specs.declared.item.MapLine.TheVariants.{MatchPrefix, MatchNextHop, MatchCommunity, MatchPath, MatchMetric, SetLocalPreference, SetMetric, SetWeight, SetPrepend, SetOrigin, SetNextHop, SetCommunity, DeleteCommunities, Continue, Description}
+use Rattle.ios_tree.specs.declared.item.CommunityListEntry.{CommunityListEntry}
+use Rattle.ios_tree.specs.declared.item.IosForm.{IosForm}
+use Rattle.ios_tree.specs.declared.item.IosForm.TheVariants.{PrefixEntry as OfPrefixList, PrefixDescription, CommunityEntry as OfCommunityList, PathEntry as OfPathList, MapHeader, Line, Other}
+use Rattle.ios_tree.specs.declared.item.IosItem.{IosItem}
+use Rattle.ios_tree.specs.declared.item.MapLine.{MapLine}
+use Rattle.ios_tree.specs.declared.item.MapLine.TheVariants.{MatchPrefix, MatchNextHop, MatchCommunity, MatchPath, MatchMetric, SetLocalPreference, SetMetric, SetWeight, SetPrepend, SetOrigin, SetNextHop, SetCommunity, DeleteCommunities, Continue, Description}
 use Rattle.ios_meaning.specs.Lists.{test_of, community_list, community_entry_from}
 use Rattle.ios_meaning.specs.Meaning.{deletes, set_by, set_by_lines, set_by_entry, set_by_entries}
 use Rattle.ios_meaning.specs.Drafts.{entries_named, entry_named, entries_at, answers_alone, Removes, removes_by, route_of, draft_by, draft_by_lines, deletes_as, draft_by_entry, draft_by_entries}

@@ -1,7 +1,7 @@
 -- Worked examples that the checker computes.
 use Rattle.std.proofs.Common.{◌≡◌, refl, List, [], ◌∷◌, ◌++◌, ◌+◌, ℕ}
 use Rattle.std.specs.Prelude.{None, codes}
-use Rattle.route_types.specs.Text.{lines_at}
+use Rattle.text_words.specs.Text.{lines_at}
 use Rattle.route_types.specs.Words.{number_in, prefix_in, parts_at, address_in, community_in}
 use Rattle.route_types.specs.Route.{RouteParts}
 use Rattle.route_types.specs.declared.community.Community.{Community}
@@ -9,10 +9,10 @@ use Rattle.route_types.specs.declared.address.Family.TheVariants.{V4}
 use Rattle.route_types.specs.declared.route.NextHop.TheVariants.{Own}
 use Rattle.route_types.specs.declared.route.Origin.TheVariants.{Igp}
 use Rattle.route_types.specs.declared.route.Outcome.TheVariants.{Reject, Accept}
-use Rattle.policy_text.specs.IosCut.{ios_cut, words_at}
+use Rattle.text_words.specs.IosCut.{ios_cut, words_at}
 use Rattle.policy_text.specs.Phrases.{after, each}
-use Rattle.ios_reader.specs.Forms.{prefix_list_in, community_list_in, map_header_in, match_prefix_in, match_next_hop_in, match_community_in, match_path_in, match_metric_in, set_local_preference_in, set_metric_in, set_weight_in, set_prepend_in, set_origin_in, set_next_hop_in, set_community_in, delete_communities_in, continue_in, description_in, match_line_in, set_value_in, set_list_in, line_in}
-use Rattle.ios_reader.specs.Tree.{ios_tree, items_of, form_of, numbered_from}
+use Rattle.ios_tree.specs.Forms.{prefix_list_in, community_list_in, map_header_in, match_prefix_in, match_next_hop_in, match_community_in, match_path_in, match_metric_in, set_local_preference_in, set_metric_in, set_weight_in, set_prepend_in, set_origin_in, set_next_hop_in, set_community_in, delete_communities_in, continue_in, description_in, match_line_in, set_value_in, set_list_in, line_in}
+use Rattle.ios_tree.specs.Tree.{ios_tree, items_of, form_of, numbered_from}
 use Rattle.ios_reader.specs.Profile.{first_fault_within, first_fault}
 use Rattle.prefix_sets.specs.FirstMatch.{first_match}
 use Rattle.community_sets.specs.Tests.{list_answers}

@@ -10,7 +10,7 @@ use Rattle.std.specs.BTreeMap.{BTreeMap, get_by, UpdatesBy}
 use Rattle.std.proofs.lemmas.Slice.Eq.{bytes_eq-Decides}
 use Rattle.std.proofs.lemmas.List.{map-append}
 use Rattle.std.proofs.lemmas.Map.Text.{btree_map_updates_str}
-use Rattle.ios_reader.specs.declared.item.CommunityListEntry.{CommunityListEntry}
+use Rattle.ios_tree.specs.declared.item.CommunityListEntry.{CommunityListEntry}
 use Rattle.ios_meaning.specs.Drafts.{entries_at}
 
 -- what stands under a name

@@ -14,8 +14,8 @@ use Rattle.std.proofs.lemmas.Cmp.{nat_cmp_total}
 use Rattle.route_types.specs.Community.{IsAscending, fits}
 use Rattle.route_types.specs.declared.community.Community.{Community}
 use Rattle.community_sets.specs.Tests.{all_fitted, is_member, same_set, test_holds}
-use Rattle.ios_reader.specs.declared.item.CommunityShape.{CommunityShape}
-use Rattle.ios_reader.specs.declared.item.CommunityShape.TheVariants.{Standard}
+use Rattle.ios_tree.specs.declared.item.CommunityShape.{CommunityShape}
+use Rattle.ios_tree.specs.declared.item.CommunityShape.TheVariants.{Standard}
 use Rattle.route_types.proofs.Sets.{Order}
 use Rattle.ios_meaning.specs.Lists.{single, test_of}
 use Rattle.ios_meaning.specs.Answers.{first_of}

@@ -7,7 +7,7 @@ use Rattle.aspath_text.specs.declared.pattern.IosBranch.{IosBranch}
 use Rattle.aspath_text.specs.declared.pattern.IosBranch.TheVariants.{EmptyPath, Pieces}
 use Rattle.aspath_text.specs.declared.pattern.Mark.TheVariants.{Nothing}
 use Rattle.aspath_text.specs.declared.pattern.Piece.TheVariants.{Anything}
-use Rattle.ios_reader.specs.declared.item.PathListEntry.{PathListEntry}
+use Rattle.ios_tree.specs.declared.item.PathListEntry.{PathListEntry}
 use Rattle.ios_meaning.specs.Lists.{path_answers}
 
 abbrev entry : Bool → IosBranch → PathListEntry

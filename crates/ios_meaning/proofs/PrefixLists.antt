@@ -14,11 +14,11 @@ use Rattle.route_types.specs.declared.route.NextHop.TheVariants.{At}
 use Rattle.route_types.specs.declared.address.Family.TheVariants.{V4, V6}
 use Rattle.prefix_sets.specs.Range.{in_range}
 use Rattle.prefix_sets.specs.FirstMatch.{first_match}
-use Rattle.ios_reader.specs.Tree.{family_of}
-use Rattle.ios_reader.specs.declared.item.PrefixListEntry.{PrefixListEntry}
-use Rattle.ios_reader.specs.declared.item.IosForm.{IosForm}
-use Rattle.ios_reader.specs.declared.item.IosForm.TheVariants.{PrefixEntry as OfPrefixList, PrefixDescription, CommunityEntry as OfCommunityList, PathEntry as OfPathList, MapHeader, Line, Other}
-use Rattle.ios_reader.specs.declared.item.IosItem.{IosItem}
+use Rattle.ios_tree.specs.Tree.{family_of}
+use Rattle.ios_tree.specs.declared.item.PrefixListEntry.{PrefixListEntry}
+use Rattle.ios_tree.specs.declared.item.IosForm.{IosForm}
+use Rattle.ios_tree.specs.declared.item.IosForm.TheVariants.{PrefixEntry as OfPrefixList, PrefixDescription, CommunityEntry as OfCommunityList, PathEntry as OfPathList, MapHeader, Line, Other}
+use Rattle.ios_tree.specs.declared.item.IosItem.{IosItem}
 use Rattle.ios_meaning.specs.Order.{put_in_order, in_order}
 use Rattle.ios_meaning.specs.Lists.{prefix_entry_from, prefix_entries, prefix_list}
 use Rattle.ios_meaning.specs.Answers.{lower, decided_by, decided_from, decided_at, permits_at, ArePrefixAnswers, AreNextHopAnswers}

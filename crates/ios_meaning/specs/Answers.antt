@@ -14,10 +14,10 @@ use Rattle.prefix_sets.specs.Range.{in_range}
 use Rattle.prefix_sets.specs.FirstMatch.{first_match}
 use Rattle.community_sets.specs.Tests.{test_holds, list_answers}
 use Rattle.aspath_text.specs.Finds.{finds_in}
-use Rattle.ios_reader.specs.declared.item.PrefixListEntry.{PrefixListEntry}
-use Rattle.ios_reader.specs.declared.item.IosForm.{IosForm}
-use Rattle.ios_reader.specs.declared.item.IosForm.TheVariants.{PrefixEntry as OfPrefixList, PrefixDescription, CommunityEntry as OfCommunityList, PathEntry as OfPathList, MapHeader, Line, Other}
-use Rattle.ios_reader.specs.declared.item.IosItem.{IosItem}
+use Rattle.ios_tree.specs.declared.item.PrefixListEntry.{PrefixListEntry}
+use Rattle.ios_tree.specs.declared.item.IosForm.{IosForm}
+use Rattle.ios_tree.specs.declared.item.IosForm.TheVariants.{PrefixEntry as OfPrefixList, PrefixDescription, CommunityEntry as OfCommunityList, PathEntry as OfPathList, MapHeader, Line, Other}
+use Rattle.ios_tree.specs.declared.item.IosItem.{IosItem}
 use Rattle.ios_meaning.specs.Lists.{prefix_list, community_list, test_of, path_list, path_answers}
 use Rattle.ios_meaning.specs.declared.prefix_answers.Deciding.{Deciding}
 use Rattle.ios_meaning.specs.declared.answers.Answers.{Answers}

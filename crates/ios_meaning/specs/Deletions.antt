@@ -7,9 +7,9 @@ use Rattle.std.specs.Ordering.{nat_cmp}
 use Rattle.std.specs.BTreeMap.{BTreeMap, get_by}
 use Rattle.route_types.specs.Community.{RectParts, fits}
 use Rattle.route_types.specs.declared.community.Community.{Community}
-use Rattle.ios_reader.specs.declared.item.CommunityListEntry.{CommunityListEntry}
-use Rattle.ios_reader.specs.declared.item.CommunityShape.{CommunityShape}
-use Rattle.ios_reader.specs.declared.item.CommunityShape.TheVariants.{Standard, Expanded}
+use Rattle.ios_tree.specs.declared.item.CommunityListEntry.{CommunityListEntry}
+use Rattle.ios_tree.specs.declared.item.CommunityShape.{CommunityShape}
+use Rattle.ios_tree.specs.declared.item.CommunityShape.TheVariants.{Standard, Expanded}
 use Rattle.ios_meaning.specs.declared.reach.Reach.{Reach}
 use Rattle.ios_meaning.specs.declared.reach.Reach.TheVariants.{Nobody, One, High, Low, Every, Within}
 use Rattle.ios_meaning.specs.declared.reach.KeySort.{KeySort}

@@ -13,12 +13,12 @@ use Rattle.route_types.specs.declared.community.Community.{Community}
 use Rattle.route_types.specs.declared.route.NextHop.TheVariants.{At}
 use Rattle.community_sets.specs.Tests.{test_holds}
 use Rattle.ios_reader.specs.Entries.{Entry}
-use Rattle.ios_reader.specs.declared.item.CommunityListEntry.{CommunityListEntry}
-use Rattle.ios_reader.specs.declared.item.IosForm.{IosForm}
-use Rattle.ios_reader.specs.declared.item.IosForm.TheVariants.{PrefixEntry as OfPrefixList, PrefixDescription, CommunityEntry as OfCommunityList, PathEntry as OfPathList, MapHeader, Line, Other}
-use Rattle.ios_reader.specs.declared.item.IosItem.{IosItem}
-use Rattle.ios_reader.specs.declared.item.MapLine.{MapLine}
-use Rattle.ios_reader.specs.declared.item.MapLine.TheVariants.{SetLocalPreference, SetMetric, SetWeight, SetPrepend, SetOrigin, SetNextHop, SetCommunity, DeleteCommunities}
+use Rattle.ios_tree.specs.declared.item.CommunityListEntry.{CommunityListEntry}
+use Rattle.ios_tree.specs.declared.item.IosForm.{IosForm}
+use Rattle.ios_tree.specs.declared.item.IosForm.TheVariants.{PrefixEntry as OfPrefixList, PrefixDescription, CommunityEntry as OfCommunityList, PathEntry as OfPathList, MapHeader, Line, Other}
+use Rattle.ios_tree.specs.declared.item.IosItem.{IosItem}
+use Rattle.ios_tree.specs.declared.item.MapLine.{MapLine}
+use Rattle.ios_tree.specs.declared.item.MapLine.TheVariants.{SetLocalPreference, SetMetric, SetWeight, SetPrepend, SetOrigin, SetNextHop, SetCommunity, DeleteCommunities}
 use Rattle.ios_meaning.specs.Lists.{test_of}
 use Rattle.ios_meaning.specs.Meaning.{deletes}
 use Rattle.ios_meaning.specs.declared.draft.Draft.{Draft}

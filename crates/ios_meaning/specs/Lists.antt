@@ -10,14 +10,14 @@ use Rattle.community_sets.specs.declared.list.CommTest.{CommTest}
 use Rattle.community_sets.specs.declared.list.CommTest.TheVariants.{AllOf, Exactly}
 use Rattle.community_sets.specs.declared.list.CommEntry.{CommEntry}
 use Rattle.aspath_text.specs.Finds.{finds_in}
-use Rattle.ios_reader.specs.Tree.{is_of_list}
-use Rattle.ios_reader.specs.declared.item.CommunityShape.{CommunityShape}
-use Rattle.ios_reader.specs.declared.item.CommunityShape.TheVariants.{Standard, Expanded}
-use Rattle.ios_reader.specs.declared.item.PathListEntry.{PathListEntry}
-use Rattle.ios_reader.specs.declared.item.PrefixListEntry.{PrefixListEntry}
-use Rattle.ios_reader.specs.declared.item.IosForm.{IosForm}
-use Rattle.ios_reader.specs.declared.item.IosForm.TheVariants.{PrefixEntry as OfPrefixList, PrefixDescription, CommunityEntry as OfCommunityList, PathEntry as OfPathList, MapHeader, Line, Other}
-use Rattle.ios_reader.specs.declared.item.IosItem.{IosItem}
+use Rattle.ios_tree.specs.Tree.{is_of_list}
+use Rattle.ios_tree.specs.declared.item.CommunityShape.{CommunityShape}
+use Rattle.ios_tree.specs.declared.item.CommunityShape.TheVariants.{Standard, Expanded}
+use Rattle.ios_tree.specs.declared.item.PathListEntry.{PathListEntry}
+use Rattle.ios_tree.specs.declared.item.PrefixListEntry.{PrefixListEntry}
+use Rattle.ios_tree.specs.declared.item.IosForm.{IosForm}
+use Rattle.ios_tree.specs.declared.item.IosForm.TheVariants.{PrefixEntry as OfPrefixList, PrefixDescription, CommunityEntry as OfCommunityList, PathEntry as OfPathList, MapHeader, Line, Other}
+use Rattle.ios_tree.specs.declared.item.IosItem.{IosItem}
 use Rattle.ios_meaning.specs.Order.{in_order}
 
 -- an item as an entry of this prefix list, before those behind it

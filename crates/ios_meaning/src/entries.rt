@@ -1,6 +1,6 @@
 // The entries of a route-map, in order of their numbers.
 ghost use Rattle.std.specs.Prelude.{◌≡◌, IfOk, map};
-ghost use Rattle.ios_reader.specs.Sorts.{is_line_sort, sort_of_form};
+ghost use Rattle.ios_tree.specs.Sorts.{is_line_sort, sort_of_form};
 ghost use Rattle.ios_reader.specs.Entries.{lines_below, entries_of};
 ghost use Rattle.ios_meaning.specs.Order.{in_order};
 ghost use Rattle.ios_meaning.specs.Drafts.{entry_of};

@@ -1,7 +1,7 @@
 // What the path lists of a tree answer on a path.
 ghost use Rattle.std.specs.Prelude.{◌≡◌, ℕ, List, true, false, None, IfOk, bytes_eq};
 ghost use Rattle.aspath_text.specs.Finds.{finds_in};
-ghost use Rattle.ios_reader.specs.declared.item.IosForm.TheVariants.{PathEntry as OfPathList};
+ghost use Rattle.ios_tree.specs.declared.item.IosForm.TheVariants.{PathEntry as OfPathList};
 ghost use Rattle.ios_meaning.specs.Answers.{first_of, path_answered_by, path_answered_from, answered_at};
 
 use aspath_text::finds;

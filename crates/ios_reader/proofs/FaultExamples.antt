@@ -1,21 +1,21 @@
 -- The first fault of small trees, which the checker computes: one for each cause, and path lists.
 use Rattle.std.proofs.Common.{◌≡◌, refl, List, [], ◌∷◌, ◌+◌, ℕ, Bool, true, false}
 use Rattle.std.specs.Prelude.{Some, None, Option, codes}
-use Rattle.policy_text.specs.declared.statement.Span.{Span}
+use Rattle.text_words.specs.declared.statement.Span.{Span}
 use Rattle.policy_text.specs.declared.fault.Cause.{Cause}
 use Rattle.policy_text.specs.declared.fault.Cause.TheVariants.{UnknownForm, DefinedTwice, SequenceTwice, Undefined, SameKindTwice, BackwardContinue, DenyContinue, UnsettledTest, ExactExpanded}
 use Rattle.aspath_text.specs.declared.pattern.IosBranch.TheVariants.{EmptyPath}
 use Rattle.ios_reader.specs.Profile.{first_fault, first_fault_within}
-use Rattle.ios_reader.specs.declared.item.IosForm.{IosForm}
-use Rattle.ios_reader.specs.declared.item.IosForm.TheVariants.{CommunityEntry, PathEntry, MapHeader, Line, Other}
-use Rattle.ios_reader.specs.declared.item.CommunityShape.{CommunityShape}
-use Rattle.ios_reader.specs.declared.item.CommunityShape.TheVariants.{Standard, Expanded}
-use Rattle.ios_reader.specs.declared.item.ItemSort.{ItemSort}
-use Rattle.ios_reader.specs.declared.item.ItemSort.TheVariants.{PathList}
-use Rattle.ios_reader.specs.declared.item.ItemSort.TheVariants.{Line as LineSort}
-use Rattle.ios_reader.specs.declared.item.IosItem.{IosItem}
-use Rattle.ios_reader.specs.declared.item.MapLine.{MapLine}
-use Rattle.ios_reader.specs.declared.item.MapLine.TheVariants.{MatchCommunity, MatchPath, SetMetric, SetPrepend, Continue}
+use Rattle.ios_tree.specs.declared.item.IosForm.{IosForm}
+use Rattle.ios_tree.specs.declared.item.IosForm.TheVariants.{CommunityEntry, PathEntry, MapHeader, Line, Other}
+use Rattle.ios_tree.specs.declared.item.CommunityShape.{CommunityShape}
+use Rattle.ios_tree.specs.declared.item.CommunityShape.TheVariants.{Standard, Expanded}
+use Rattle.ios_tree.specs.declared.item.ItemSort.{ItemSort}
+use Rattle.ios_tree.specs.declared.item.ItemSort.TheVariants.{PathList}
+use Rattle.ios_tree.specs.declared.item.ItemSort.TheVariants.{Line as LineSort}
+use Rattle.ios_tree.specs.declared.item.IosItem.{IosItem}
+use Rattle.ios_tree.specs.declared.item.MapLine.{MapLine}
+use Rattle.ios_tree.specs.declared.item.MapLine.TheVariants.{MatchCommunity, MatchPath, SetMetric, SetPrepend, Continue}
 
 -- the statement at a place
 abbrev span : ℕ → Span

@@ -2,15 +2,15 @@
 use Rattle.std.proofs.Common.{◌≡◌, refl, Bool, true, false, List, [], ◌∷◌, ◌++◌, ℕ, Option, Some, None}
 use Rattle.route_types.specs.Words.{when}
 use Rattle.policy_text.specs.Names.{first_some}
-use Rattle.policy_text.specs.declared.statement.Span.{Span}
+use Rattle.text_words.specs.declared.statement.Span.{Span}
 use Rattle.policy_text.specs.declared.fault.Cause.{Cause}
 use Rattle.policy_text.specs.declared.fault.Cause.TheVariants.{UnknownForm}
 use Rattle.ios_reader.specs.Profile.{has_no_form, is_unknown, reached, fault_at, first_fault_from, first_fault_within, is_defined, InProfile}
-use Rattle.ios_reader.specs.declared.item.IosForm.{IosForm}
-use Rattle.ios_reader.specs.declared.item.IosForm.TheVariants.{PrefixEntry, PrefixDescription, CommunityEntry, PathEntry, MapHeader, Line, Other}
-use Rattle.ios_reader.specs.declared.item.IosItem.{IosItem}
-use Rattle.ios_reader.specs.declared.item.Forms.{Forms}
-use Rattle.ios_reader.specs.declared.item.Forms.TheVariants.{All, First}
+use Rattle.ios_tree.specs.declared.item.IosForm.{IosForm}
+use Rattle.ios_tree.specs.declared.item.IosForm.TheVariants.{PrefixEntry, PrefixDescription, CommunityEntry, PathEntry, MapHeader, Line, Other}
+use Rattle.ios_tree.specs.declared.item.IosItem.{IosItem}
+use Rattle.ios_reader.specs.declared.forms.Forms.{Forms}
+use Rattle.ios_reader.specs.declared.forms.Forms.TheVariants.{All, First}
 
 -- a statement of no form is none of the forms that are taken
 unknown_first : (form : IosForm) → has_no_form form ≡ true → is_unknown First form ≡ true

@@ -3,13 +3,13 @@ use Rattle.std.proofs.Common.{◌≡◌, refl, sym, ap, ◌∙◌, subst, ℕ, �
 use Rattle.std.proofs.lemmas.List.{take_all}
 use Rattle.route_types.specs.declared.address.Family.{Family}
 use Rattle.policy_text.specs.declared.fault.Cause.{Cause}
-use Rattle.ios_reader.specs.Tree.{family_of}
-use Rattle.ios_reader.specs.Sorts.{is_line, is_expanded}
+use Rattle.ios_tree.specs.Tree.{family_of}
+use Rattle.ios_tree.specs.Sorts.{is_line, is_expanded}
 use Rattle.ios_reader.specs.Profile.{is_prefix_entry, is_map_header, is_community_entry, is_second_sort, repeats_number, is_unknown, fault_at, first_fault_from, first_fault_within}
-use Rattle.ios_reader.specs.declared.item.IosForm.{IosForm}
-use Rattle.ios_reader.specs.declared.item.IosForm.TheVariants.{PrefixEntry, PrefixDescription, CommunityEntry, PathEntry, MapHeader, Line, Other}
-use Rattle.ios_reader.specs.declared.item.IosItem.{IosItem}
-use Rattle.ios_reader.specs.declared.item.Forms.{Forms}
+use Rattle.ios_tree.specs.declared.item.IosForm.{IosForm}
+use Rattle.ios_tree.specs.declared.item.IosForm.TheVariants.{PrefixEntry, PrefixDescription, CommunityEntry, PathEntry, MapHeader, Line, Other}
+use Rattle.ios_tree.specs.declared.item.IosItem.{IosItem}
+use Rattle.ios_reader.specs.declared.forms.Forms.{Forms}
 use Rattle.ios_reader.specs.Facts.{Facts, facts_of}
 use Rattle.ios_reader.specs.Known.{Knows}
 use Rattle.ios_reader.specs.Given.{second_sort_given, repeats_given, fault_given}

@@ -3,16 +3,16 @@ use Rattle.std.proofs.Common.{◌≡◌, refl, ap, ◌∙◌, ℕ, ◌-◌, ◌<
 use Rattle.std.specs.Prelude.{bytes_eq}
 use Rattle.std.specs.List.{list_any}
 use Rattle.std.proofs.lemmas.List.{take_all}
-use Rattle.policy_text.specs.declared.statement.Span.{Span}
+use Rattle.text_words.specs.declared.statement.Span.{Span}
 use Rattle.ios_reader.specs.Entries.{Entry, entries_of, lines_below}
 use Rattle.ios_reader.specs.Lines.{continues}
-use Rattle.ios_reader.specs.declared.item.ItemSort.{ItemSort}
-use Rattle.ios_reader.specs.declared.item.ItemSort.TheVariants.{PrefixList, CommunityList, PathList, Map}
-use Rattle.ios_reader.specs.declared.item.ItemSort.TheVariants.{Line as LineSort}
-use Rattle.ios_reader.specs.declared.item.IosForm.{IosForm}
-use Rattle.ios_reader.specs.declared.item.IosForm.TheVariants.{PrefixEntry, PrefixDescription, CommunityEntry, PathEntry, MapHeader, Line, Other}
-use Rattle.ios_reader.specs.declared.item.IosItem.{IosItem}
-use Rattle.ios_reader.specs.declared.item.MapLine.{MapLine}
+use Rattle.ios_tree.specs.declared.item.ItemSort.{ItemSort}
+use Rattle.ios_tree.specs.declared.item.ItemSort.TheVariants.{PrefixList, CommunityList, PathList, Map}
+use Rattle.ios_tree.specs.declared.item.ItemSort.TheVariants.{Line as LineSort}
+use Rattle.ios_tree.specs.declared.item.IosForm.{IosForm}
+use Rattle.ios_tree.specs.declared.item.IosForm.TheVariants.{PrefixEntry, PrefixDescription, CommunityEntry, PathEntry, MapHeader, Line, Other}
+use Rattle.ios_tree.specs.declared.item.IosItem.{IosItem}
+use Rattle.ios_tree.specs.declared.item.MapLine.{MapLine}
 use Rattle.ios_reader.specs.Facts.{sets_below}
 use Rattle.ios_reader.specs.Settings.{is_above, open_sets_below, IsLeast, head_number, entry_behind, tells}
 use Rattle.ios_reader.specs.declared.unsettled.OpenEntry.{OpenEntry}

@@ -5,8 +5,8 @@ use Rattle.route_types.specs.declared.address.Family.{Family}
 use Rattle.ios_reader.specs.Entries.{Entry, entries_of}
 use Rattle.ios_reader.specs.Lines.{names_prefix_list, names_community_list, names_path_list, continues, sets_med, sets_path, sets_next_hop, sets_communities}
 use Rattle.ios_reader.specs.Profile.{of_prefix_list, of_community_list, of_path_list, lines_of, is_community_entry, is_map_header}
-use Rattle.ios_reader.specs.declared.item.IosItem.{IosItem}
-use Rattle.ios_reader.specs.declared.item.MapLine.{MapLine}
+use Rattle.ios_tree.specs.declared.item.IosItem.{IosItem}
+use Rattle.ios_tree.specs.declared.item.MapLine.{MapLine}
 
 -- the lists that are there, those that the lines of the map name, the expanded ones, the numbers of the map's
 -- headers, and whether an entry of a lower number continues and sets the MED, the path, the next hop, or the communities

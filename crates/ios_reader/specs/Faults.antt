@@ -3,8 +3,8 @@ use Rattle.std.specs.Prelude.{◌≡◌, ℕ, true, false, List, Some}
 use Rattle.policy_text.specs.declared.fault.CheckFault.{CheckFault}
 use Rattle.policy_text.specs.declared.fault.CheckFault.TheVariants.{NoPolicy, Outside, Memory}
 use Rattle.ios_reader.specs.Profile.{is_defined, first_fault_within}
-use Rattle.ios_reader.specs.declared.item.Forms.{Forms}
-use Rattle.ios_reader.specs.declared.item.IosItem.{IosItem}
+use Rattle.ios_reader.specs.declared.forms.Forms.{Forms}
+use Rattle.ios_tree.specs.declared.item.IosItem.{IosItem}
 
 -- the fault is the one of the policy of this name, for a caller who takes these forms; want of memory says nothing of it
 abbrev pub IsCheckFault : Forms → List ℕ → List IosItem → CheckFault → Type 0

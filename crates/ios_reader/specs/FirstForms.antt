@@ -1,9 +1,9 @@
 -- The forms that translation takes for now.
 use Rattle.std.specs.Prelude.{Bool, true, false, ◌&&◌, ◌==◌, length}
-use Rattle.ios_reader.specs.declared.item.IosForm.{IosForm}
-use Rattle.ios_reader.specs.declared.item.IosForm.TheVariants.{PrefixEntry, PrefixDescription, CommunityEntry, PathEntry, MapHeader, Line, Other}
-use Rattle.ios_reader.specs.declared.item.MapLine.{MapLine}
-use Rattle.ios_reader.specs.declared.item.MapLine.TheVariants.{MatchPrefix, SetLocalPreference, Description}
+use Rattle.ios_tree.specs.declared.item.IosForm.{IosForm}
+use Rattle.ios_tree.specs.declared.item.IosForm.TheVariants.{PrefixEntry, PrefixDescription, CommunityEntry, PathEntry, MapHeader, Line, Other}
+use Rattle.ios_tree.specs.declared.item.MapLine.{MapLine}
+use Rattle.ios_tree.specs.declared.item.MapLine.TheVariants.{MatchPrefix, SetLocalPreference, Description}
 
 -- a test of one prefix list, a local preference, or a description
 abbrev pub is_first_line : MapLine → Bool

@@ -2,8 +2,8 @@
 use Rattle.std.specs.Prelude.{ℕ, Bool, ◌&&◌, not, List}
 use Rattle.policy_text.specs.Names.{is_named}
 use Rattle.route_types.specs.declared.address.Family.{Family}
-use Rattle.ios_reader.specs.Sorts.{sort_of_form, name_of_form, is_header_sort, is_prefix_sort, is_community_sort, is_path_sort, is_description}
-use Rattle.ios_reader.specs.declared.item.IosForm.{IosForm}
+use Rattle.ios_tree.specs.Sorts.{sort_of_form, name_of_form, is_header_sort, is_prefix_sort, is_community_sort, is_path_sort, is_description}
+use Rattle.ios_tree.specs.declared.item.IosForm.{IosForm}
 
 -- the form heads an entry of the map of this name
 abbrev pub heads_form : List ℕ → IosForm → Bool

@@ -5,19 +5,19 @@ use Rattle.route_types.specs.Words.{when}
 use Rattle.policy_text.specs.Names.{is_named, first_some}
 use Rattle.policy_text.specs.declared.fault.Cause.{Cause}
 use Rattle.policy_text.specs.declared.fault.Cause.TheVariants.{UnknownForm, DefinedTwice, SequenceTwice, Undefined, SameKindTwice, BackwardContinue, DenyContinue, UnsettledTest, ExactExpanded}
-use Rattle.ios_reader.specs.Tree.{family_of}
-use Rattle.ios_reader.specs.Sorts.{sort_of_form, name_of_form, is_expanded}
+use Rattle.ios_tree.specs.Tree.{family_of}
+use Rattle.ios_tree.specs.Sorts.{sort_of_form, name_of_form, is_expanded}
 use Rattle.ios_reader.specs.Lines.{is_description_line, continues, target_of}
 use Rattle.ios_reader.specs.Profile.{passes, is_unknown, EntryCauses}
 use Rattle.route_types.specs.declared.address.Family.{Family}
-use Rattle.ios_reader.specs.declared.item.ItemSort.{ItemSort}
-use Rattle.ios_reader.specs.declared.item.ItemSort.TheVariants.{PrefixList, CommunityList, PathList, Map}
-use Rattle.ios_reader.specs.declared.item.ItemSort.TheVariants.{Line as LineSort}
-use Rattle.ios_reader.specs.declared.item.IosForm.{IosForm}
-use Rattle.ios_reader.specs.declared.item.IosForm.TheVariants.{PrefixEntry, PrefixDescription, CommunityEntry, PathEntry, MapHeader, Line, Other}
-use Rattle.ios_reader.specs.declared.item.MapLine.{MapLine}
-use Rattle.ios_reader.specs.declared.item.MapLine.TheVariants.{MatchPrefix, MatchNextHop, MatchCommunity, MatchPath, MatchMetric, DeleteCommunities}
-use Rattle.ios_reader.specs.declared.item.Forms.{Forms}
+use Rattle.ios_tree.specs.declared.item.ItemSort.{ItemSort}
+use Rattle.ios_tree.specs.declared.item.ItemSort.TheVariants.{PrefixList, CommunityList, PathList, Map}
+use Rattle.ios_tree.specs.declared.item.ItemSort.TheVariants.{Line as LineSort}
+use Rattle.ios_tree.specs.declared.item.IosForm.{IosForm}
+use Rattle.ios_tree.specs.declared.item.IosForm.TheVariants.{PrefixEntry, PrefixDescription, CommunityEntry, PathEntry, MapHeader, Line, Other}
+use Rattle.ios_tree.specs.declared.item.MapLine.{MapLine}
+use Rattle.ios_tree.specs.declared.item.MapLine.TheVariants.{MatchPrefix, MatchNextHop, MatchCommunity, MatchPath, MatchMetric, DeleteCommunities}
+use Rattle.ios_reader.specs.declared.forms.Forms.{Forms}
 use Rattle.ios_reader.specs.Facts.{Facts}
 use Rattle.ios_reader.specs.declared.place.EntryHead.{EntryHead}
 use Rattle.ios_reader.specs.declared.faults.EntryFaults.{EntryFaults}

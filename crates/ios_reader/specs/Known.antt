@@ -1,7 +1,7 @@
 -- What the check keeps of the whole tree, as facts.
 use Rattle.std.specs.Prelude.{◌≡◌, ℕ, List}
 use Rattle.route_types.specs.declared.address.Family.{Family}
-use Rattle.ios_reader.specs.declared.item.IosItem.{IosItem}
+use Rattle.ios_tree.specs.declared.item.IosItem.{IosItem}
 use Rattle.ios_reader.specs.Seen.{has_name, has_entry, has_list}
 use Rattle.ios_reader.specs.Settings.{is_above}
 use Rattle.ios_reader.specs.Facts.{Facts, facts_of}

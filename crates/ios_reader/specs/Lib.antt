@@ -1,12 +1,5 @@
-pub mod Names
-pub mod Forms
-pub mod Tree
-pub mod Sorts
-pub mod Spelling
 pub mod Entries
 pub mod Lines
-pub mod Numbering
-pub mod Spans
 pub mod FirstForms
 pub mod Profile
 pub mod Faults

@@ -5,25 +5,25 @@ use Rattle.std.specs.List.{list_any}
 use Rattle.route_types.specs.Words.{when}
 use Rattle.route_types.specs.declared.address.Family.{Family}
 use Rattle.policy_text.specs.Names.{is_named, first_some}
-use Rattle.policy_text.specs.declared.statement.Span.{Span}
+use Rattle.text_words.specs.declared.statement.Span.{Span}
 use Rattle.policy_text.specs.declared.fault.Cause.{Cause}
 use Rattle.policy_text.specs.declared.fault.Cause.TheVariants.{UnknownForm, DefinedTwice, SequenceTwice, Undefined, SameKindTwice, BackwardContinue, DenyContinue, UnsettledTest, ExactExpanded}
-use Rattle.ios_reader.specs.Tree.{is_of_list, family_of}
-use Rattle.ios_reader.specs.Sorts.{sort_of_form, name_of_form, is_line, heads, is_prefix_sort, is_community_sort, is_path_sort, is_description, is_expanded}
+use Rattle.ios_tree.specs.Tree.{is_of_list, family_of}
+use Rattle.ios_tree.specs.Sorts.{sort_of_form, name_of_form, is_line, heads, is_prefix_sort, is_community_sort, is_path_sort, is_description, is_expanded}
 use Rattle.ios_reader.specs.Entries.{onto_lines, entries_of}
 use Rattle.ios_reader.specs.Lines.{names_prefix_list, names_community_list, names_path_list, kind_of, is_description_line, continues, target_of, sets_tested}
 use Rattle.ios_reader.specs.FirstForms.{is_first_form}
-use Rattle.ios_reader.specs.declared.item.ItemSort.{ItemSort}
-use Rattle.ios_reader.specs.declared.item.ItemSort.TheVariants.{PrefixList, CommunityList, PathList, Map}
-use Rattle.ios_reader.specs.declared.item.ItemSort.TheVariants.{Line as LineSort}
-use Rattle.ios_reader.specs.declared.item.IosForm.{IosForm}
-use Rattle.ios_reader.specs.declared.item.IosForm.TheVariants.{PrefixEntry, PrefixDescription, CommunityEntry, PathEntry, MapHeader, Line, Other}
-use Rattle.ios_reader.specs.declared.item.MapHeader.{MapHeader as Header}
-use Rattle.ios_reader.specs.declared.item.MapLine.{MapLine}
-use Rattle.ios_reader.specs.declared.item.MapLine.TheVariants.{MatchPrefix, MatchNextHop, MatchCommunity, MatchPath, DeleteCommunities}
-use Rattle.ios_reader.specs.declared.item.Forms.{Forms}
-use Rattle.ios_reader.specs.declared.item.Forms.TheVariants.{All, First}
-use Rattle.ios_reader.specs.declared.item.IosItem.{IosItem}
+use Rattle.ios_tree.specs.declared.item.ItemSort.{ItemSort}
+use Rattle.ios_tree.specs.declared.item.ItemSort.TheVariants.{PrefixList, CommunityList, PathList, Map}
+use Rattle.ios_tree.specs.declared.item.ItemSort.TheVariants.{Line as LineSort}
+use Rattle.ios_tree.specs.declared.item.IosForm.{IosForm}
+use Rattle.ios_tree.specs.declared.item.IosForm.TheVariants.{PrefixEntry, PrefixDescription, CommunityEntry, PathEntry, MapHeader, Line, Other}
+use Rattle.ios_tree.specs.declared.item.MapHeader.{MapHeader as Header}
+use Rattle.ios_tree.specs.declared.item.MapLine.{MapLine}
+use Rattle.ios_tree.specs.declared.item.MapLine.TheVariants.{MatchPrefix, MatchNextHop, MatchCommunity, MatchPath, DeleteCommunities}
+use Rattle.ios_reader.specs.declared.forms.Forms.{Forms}
+use Rattle.ios_reader.specs.declared.forms.Forms.TheVariants.{All, First}
+use Rattle.ios_tree.specs.declared.item.IosItem.{IosItem}
 
 -- a policy as clauses see it
 pub record PolicyParts : Type 0 where

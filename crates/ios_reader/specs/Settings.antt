@@ -3,11 +3,11 @@ use Rattle.std.specs.Prelude.{◌≡◌, ℕ, Bool, true, false, ◌&&◌, ◌||
 use Rattle.std.specs.List.{list_any}
 use Rattle.ios_reader.specs.Entries.{lines_below, entries_of}
 use Rattle.ios_reader.specs.Lines.{continues, sets_med, sets_path, sets_next_hop, sets_communities}
-use Rattle.ios_reader.specs.Sorts.{sort_of_form, is_line_sort}
-use Rattle.ios_reader.specs.declared.item.IosForm.{IosForm}
-use Rattle.ios_reader.specs.declared.item.IosForm.TheVariants.{PrefixEntry, PrefixDescription, CommunityEntry, PathEntry, MapHeader, Line, Other}
-use Rattle.ios_reader.specs.declared.item.IosItem.{IosItem}
-use Rattle.ios_reader.specs.declared.item.MapLine.{MapLine}
+use Rattle.ios_tree.specs.Sorts.{sort_of_form, is_line_sort}
+use Rattle.ios_tree.specs.declared.item.IosForm.{IosForm}
+use Rattle.ios_tree.specs.declared.item.IosForm.TheVariants.{PrefixEntry, PrefixDescription, CommunityEntry, PathEntry, MapHeader, Line, Other}
+use Rattle.ios_tree.specs.declared.item.IosItem.{IosItem}
+use Rattle.ios_tree.specs.declared.item.MapLine.{MapLine}
 use Rattle.ios_reader.specs.Facts.{sets_below}
 use Rattle.ios_reader.specs.declared.unsettled.Setting.{Setting}
 use Rattle.ios_reader.specs.declared.unsettled.Setting.TheVariants.{Med, Path, NextHop, Communities}

@@ -2,15 +2,15 @@
 use Rattle.std.specs.Prelude.{◌≡◌, ℕ, Bool, true, false, ◌==◌, List, [], ◌∷◌, None, option_map, get_or, set, length}
 use Rattle.std.specs.List.{list_any}
 use Rattle.route_types.specs.declared.address.Family.{Family}
-use Rattle.ios_reader.specs.Sorts.{sort_of_form, is_line_sort}
+use Rattle.ios_tree.specs.Sorts.{sort_of_form, is_line_sort}
 use Rattle.ios_reader.specs.Lines.{kind_of}
 use Rattle.ios_reader.specs.Profile.{is_inside, open_header, open_lines, header_in, is_prefix_entry, is_map_header, is_community_entry, is_unknown, first_fault_from}
-use Rattle.ios_reader.specs.declared.item.IosForm.{IosForm}
-use Rattle.ios_reader.specs.declared.item.IosForm.TheVariants.{PrefixEntry, PrefixDescription, CommunityEntry, PathEntry, MapHeader, Line, Other}
-use Rattle.ios_reader.specs.declared.item.IosItem.{IosItem}
-use Rattle.ios_reader.specs.declared.item.MapHeader.{MapHeader as Header}
-use Rattle.ios_reader.specs.declared.item.MapLine.{MapLine}
-use Rattle.ios_reader.specs.declared.item.Forms.{Forms}
+use Rattle.ios_tree.specs.declared.item.IosForm.{IosForm}
+use Rattle.ios_tree.specs.declared.item.IosForm.TheVariants.{PrefixEntry, PrefixDescription, CommunityEntry, PathEntry, MapHeader, Line, Other}
+use Rattle.ios_tree.specs.declared.item.IosItem.{IosItem}
+use Rattle.ios_tree.specs.declared.item.MapHeader.{MapHeader as Header}
+use Rattle.ios_tree.specs.declared.item.MapLine.{MapLine}
+use Rattle.ios_reader.specs.declared.forms.Forms.{Forms}
 use Rattle.ios_reader.specs.FormSorts.{heads_form}
 use Rattle.ios_reader.specs.declared.place.Place.{Place}
 use Rattle.ios_reader.specs.declared.place.EntryHead.{EntryHead}

@@ -1,15 +1,15 @@
 ghost use Rattle.std.specs.Prelude.{◌≡◌, [], ◌∷◌, true, None, IfOk, IfErr, MatchOption};
 ghost use Rattle.ios_reader.specs.Profile.{InProfile, first_fault_within, is_defined};
 ghost use Rattle.ios_reader.specs.Faults.{IsCheckFault};
-ghost use Rattle.ios_reader.specs.declared.item.Forms.TheVariants.{All};
+ghost use Rattle.ios_reader.specs.declared.forms.Forms.TheVariants.{All};
 
 use crate::checked::CheckedIos;
 use crate::faults::{Repeats, fault_of, note_number, note_sort};
-use crate::item::{Forms, IosItem};
+use crate::forms::Forms;
 use crate::known::known_of;
 use crate::place::{place_behind, place_of_start};
 use crate::sorts::heads;
-use crate::tree::IosTree;
+use ios_tree::{IosItem, IosTree};
 use policy_text::{Cause, CheckFault, Span, copied};
 use route_types::{Memory, Row};
 use std::alloc::Global;

@@ -1,7 +1,7 @@
 ghost use Rattle.std.specs.Prelude.{◌≡◌};
 ghost use Rattle.ios_reader.specs.Profile.{IsPolicyOf};
 
-use crate::tree::IosTree;
+use ios_tree::IosTree;
 use route_types::Row;
 use std::marker::Model;
 

@@ -9,7 +9,7 @@ ghost use Rattle.ios_reader.specs.Settings.{is_above};
 ghost use Rattle.ios_reader.specs.Walk.{has_kind};
 ghost use Rattle.ios_reader.specs.Given.{reached_given, lists_missing_given, target_missing_given, continues_back_given, is_unsettled_given, is_exact_expanded_given, entry_causes_given, line_cause_of, line_cause_given, line_fault_given, cause_of, second_sort_given, repeats_given, fault_given, causes_in};
 
-use crate::item::{Forms, IosForm, ItemSort, MapLine};
+use crate::forms::Forms;
 use crate::known::Known;
 use crate::place::{EntryHead, Place, has_kind};
 use crate::seen::{add_entry, add_place, add_sort, has_entry, has_list, has_name};
@@ -17,6 +17,7 @@ use crate::sorts::{
     continues, family_of, is_description_line, is_expanded, is_unknown, name_of_form, sort_of_form,
     stands_under, target_of,
 };
+use ios_tree::{IosForm, ItemSort, MapLine};
 use policy_text::Cause;
 use route_types::{Family, Memory, Row};
 use std::collections::BTreeSet;

@@ -1,10 +1,10 @@
 ghost use Rattle.std.specs.Prelude.{◌≡◌, IfOk};
 ghost use Rattle.ios_reader.specs.Known.{known_facts, Knows};
 
-use crate::item::IosItem;
 use crate::named::{community_names, path_names, prefix_names};
 use crate::there::{community_lists, expanded_lists, map_headers, path_lists, prefix_lists};
 use crate::unsettled::{Setting, least_setting};
+use ios_tree::IosItem;
 use route_types::Memory;
 use std::alloc::Global;
 use std::collections::BTreeSet;

@@ -5,13 +5,13 @@ ghost use Rattle.route_types.specs.declared.address.Family.{Family as SpecFamily
 ghost use Rattle.ios_reader.specs.Entries.{onto_lines};
 ghost use Rattle.ios_reader.specs.Lines.{names_prefix_list, names_community_list, names_path_list};
 ghost use Rattle.ios_reader.specs.Profile.{lines_of};
-ghost use Rattle.ios_reader.specs.declared.item.IosItem.{IosItem as SpecItem};
-ghost use Rattle.ios_reader.specs.declared.item.MapLine.{MapLine as SpecLine};
+ghost use Rattle.ios_tree.specs.declared.item.IosItem.{IosItem as SpecItem};
+ghost use Rattle.ios_tree.specs.declared.item.MapLine.{MapLine as SpecLine};
 ghost use Rattle.ios_reader.specs.Seen.{has_name, has_list};
 
-use crate::item::{IosForm, IosItem, MapLine};
 use crate::seen::{add_list, add_name};
 use crate::sorts::{heads, is_line};
+use ios_tree::{IosForm, IosItem, MapLine};
 use route_types::{Family, Memory, Row};
 use std::alloc::Global;
 use std::collections::BTreeSet;

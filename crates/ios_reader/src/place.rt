@@ -2,8 +2,8 @@ ghost use Rattle.std.specs.Prelude.{◌≡◌, false, None, option_map};
 ghost use Rattle.ios_reader.specs.Walk.{head_of, has_kind, kinds_with, no_kinds, place_behind};
 ghost use Rattle.ios_reader.specs.Profile.{header_in};
 
-use crate::item::{IosForm, MapLine};
 use crate::sorts::{heads, is_line, kind_of};
+use ios_tree::{IosForm, MapLine};
 
 // What the walk knows of the entry that is open, where its header has its form.
 #[derive(Clone, Copy)]

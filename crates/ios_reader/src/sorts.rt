@@ -1,13 +1,14 @@
 ghost use Rattle.std.specs.Prelude.{◌≡◌, ℕ, ◌<◌, not, bytes_eq, option_map};
 ghost use Rattle.policy_text.specs.Names.{is_named};
-ghost use Rattle.ios_reader.specs.Tree.{family_of};
-ghost use Rattle.ios_reader.specs.Sorts.{sort_of_form, name_of_form, is_line_sort, is_description, is_expanded};
+ghost use Rattle.ios_tree.specs.Tree.{family_of};
+ghost use Rattle.ios_tree.specs.Sorts.{sort_of_form, name_of_form, is_line_sort, is_description, is_expanded};
 ghost use Rattle.ios_reader.specs.Lines.{kind_of, is_description_line, continues, target_of};
 ghost use Rattle.ios_reader.specs.FirstForms.{is_first_line, is_first_form};
 ghost use Rattle.ios_reader.specs.Profile.{has_no_form, is_unknown};
 ghost use Rattle.ios_reader.specs.FormSorts.{heads_form};
 
-use crate::item::{CommunityShape, Forms, IosForm, ItemSort, MapLine, PrefixListEntry};
+use crate::forms::Forms;
+use ios_tree::{CommunityShape, IosForm, ItemSort, MapLine, PrefixListEntry};
 use route_types::{Family, Row};
 
 pub(crate) fn family_of(entry: &PrefixListEntry) -> Family

@@ -5,11 +5,11 @@ ghost use Rattle.policy_text.specs.Names.{is_named};
 ghost use Rattle.ios_reader.specs.Profile.{of_prefix_list, of_community_list, of_path_list, is_community_entry, is_map_header};
 ghost use Rattle.ios_reader.specs.FormSorts.{prefix_list_form, community_list_form, path_list_form};
 ghost use Rattle.ios_reader.specs.Seen.{has_name, has_entry, has_list};
-ghost use Rattle.ios_reader.specs.declared.item.IosForm.TheVariants.{CommunityEntry as CommunityForm, Other as OtherForm};
+ghost use Rattle.ios_tree.specs.declared.item.IosForm.TheVariants.{CommunityEntry as CommunityForm, Other as OtherForm};
 
-use crate::item::{CommunityListEntry, IosForm, IosItem, ItemSort, OtherItem};
 use crate::seen::{add_entry, add_list, add_name};
 use crate::sorts::{family_of, is_expanded};
+use ios_tree::{CommunityListEntry, IosForm, IosItem, ItemSort, OtherItem};
 use route_types::{Memory, Row};
 use std::alloc::Global;
 use std::collections::BTreeSet;

@@ -1,12 +1,12 @@
 ghost use Rattle.std.specs.Prelude.{◌≡◌, ℕ, ◌||◌};
 ghost use Rattle.std.specs.List.{list_any};
 ghost use Rattle.ios_reader.specs.Entries.{entries_of};
-ghost use Rattle.ios_reader.specs.declared.item.IosForm.TheVariants.{MapHeader as HeaderForm};
+ghost use Rattle.ios_tree.specs.declared.item.IosForm.TheVariants.{MapHeader as HeaderForm};
 ghost use Rattle.ios_reader.specs.Facts.{sets_below};
 ghost use Rattle.ios_reader.specs.Settings.{sets, is_above, head_number, with_line, entry_behind, tells};
 
-use crate::item::{IosForm, IosItem, MapHeader, MapLine};
 use crate::sorts::{continues, is_line, same_name};
+use ios_tree::{IosForm, IosItem, MapHeader, MapLine};
 
 // What a line may set that a line of a later entry tests.
 #[derive(Clone, Copy)]

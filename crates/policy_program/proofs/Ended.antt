@@ -2,13 +2,13 @@
 use Rattle.std.proofs.Common.{◌≡◌, ◌⊎◌, inl, inr, refl, sym, ap, subst, ◌∙◌, ℕ, ◌<◌, ◌≤◌, Bool, true, false, List, length, Option, Some, None, Result, Ok, Err, arith}
 use Rattle.std.specs.Prelude.{nat_le, IfSome, IsSomeAnd, is_ok}
 use Rattle.std.proofs.lemmas.Bool.Decides.{nat_tests}
-use Rattle.policy_text.specs.declared.statement.Span.{Span}
+use Rattle.text_words.specs.declared.statement.Span.{Span}
 use Rattle.policy_text.specs.declared.fault.Cause.{Cause}
 use Rattle.route_types.specs.Route.{RouteParts}
 use Rattle.route_types.specs.RouteText.{SpellsRoute}
 use Rattle.route_types.specs.RouteRead.{route_in}
 use Rattle.route_types.proofs.RouteSpelled.{route_found, route_again}
-use Rattle.ios_reader.specs.Tree.{ios_tree}
+use Rattle.ios_tree.specs.Tree.{ios_tree}
 use Rattle.ios_reader.specs.Profile.{first_fault_within}
 use Rattle.policy_outside.specs.Texts.{Texts, text_at, IsTold, IsLonger}
 use Rattle.policy_program.specs.Command.{Request, Translate, Judge, JudgeParts, Accepts, IsRefused}

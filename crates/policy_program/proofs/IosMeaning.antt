@@ -10,8 +10,8 @@ use Rattle.route_types.specs.declared.route.Outcome.{Outcome}
 use Rattle.route_types.specs.declared.route.Outcome.TheVariants.{Reject, Accept}
 use Rattle.ios_reader.specs.Entries.{Entry, entries_of}
 use Rattle.ios_reader.specs.Profile.{first_fault_within}
-use Rattle.ios_reader.specs.declared.item.Forms.TheVariants.{First}
-use Rattle.ios_reader.specs.declared.item.IosItem.{IosItem}
+use Rattle.ios_reader.specs.declared.forms.Forms.TheVariants.{First}
+use Rattle.ios_tree.specs.declared.item.IosItem.{IosItem}
 use Rattle.ios_meaning.specs.Order.{in_order}
 use Rattle.ios_meaning.proofs.InOrder.{map_in_order}
 use Rattle.ios_meaning.specs.Meaning.{entry_holds, set_by_entry, continuation_of, run, ios_meaning}

@@ -1,8 +1,8 @@
 -- What was judged on a checked policy is judged for its source.
 use Rattle.std.proofs.Common.{ap, ◌∙◌, ℕ, List, Ok, Err}
 use Rattle.ios_reader.specs.Profile.{PolicyParts}
-use Rattle.ios_reader.specs.declared.item.IosItem.{IosItem}
-use Rattle.ios_reader.specs.declared.item.Forms.TheVariants.{All}
+use Rattle.ios_tree.specs.declared.item.IosItem.{IosItem}
+use Rattle.ios_reader.specs.declared.forms.Forms.TheVariants.{All}
 use Rattle.ios_meaning.specs.Meaning.{ios_meaning}
 use Rattle.policy_program.specs.Checked.{IsChecked}
 use Rattle.policy_program.specs.Translated.{Answer}

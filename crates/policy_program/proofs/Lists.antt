@@ -10,7 +10,7 @@ use Rattle.std.proofs.lemmas.Slice.Eq.{bytes_eq-Decides}
 use Rattle.std.proofs.lemmas.Map.Text.{btree_map_updates_str}
 use Rattle.std.proofs.lemmas.List.{append-nil}
 use Rattle.prefix_sets.specs.Range.{RangeParts}
-use Rattle.ios_reader.specs.declared.item.PrefixListEntry.{PrefixListEntry}
+use Rattle.ios_tree.specs.declared.item.PrefixListEntry.{PrefixListEntry}
 use Rattle.policy_program.specs.Plan.{ranges_at, ranges_named}
 use Rattle.policy_program.specs.Planned.{Lists}
 

@@ -9,14 +9,14 @@ use Rattle.route_types.specs.declared.address.Family.{Family}
 use Rattle.route_types.specs.declared.address.Family.TheVariants.{V4}
 use Rattle.route_types.specs.declared.change.Change.TheVariants.{LocalPreference}
 use Rattle.prefix_sets.specs.FirstMatch.{first_match}
-use Rattle.ios_reader.specs.Sorts.{is_line}
+use Rattle.ios_tree.specs.Sorts.{is_line}
 use Rattle.ios_reader.specs.Entries.{Entry, onto_lines, lines_below, entry_from, entries_of}
-use Rattle.ios_reader.specs.declared.item.IosForm.{IosForm}
-use Rattle.ios_reader.specs.declared.item.IosForm.TheVariants.{PrefixEntry, PrefixDescription, CommunityEntry, PathEntry, MapHeader, Line, Other}
-use Rattle.ios_reader.specs.declared.item.IosItem.{IosItem}
-use Rattle.ios_reader.specs.declared.item.MapHeader.{MapHeader as Header}
-use Rattle.ios_reader.specs.declared.item.MapLine.{MapLine}
-use Rattle.ios_reader.specs.declared.item.MapLine.TheVariants.{MatchPrefix, SetLocalPreference, Description}
+use Rattle.ios_tree.specs.declared.item.IosForm.{IosForm}
+use Rattle.ios_tree.specs.declared.item.IosForm.TheVariants.{PrefixEntry, PrefixDescription, CommunityEntry, PathEntry, MapHeader, Line, Other}
+use Rattle.ios_tree.specs.declared.item.IosItem.{IosItem}
+use Rattle.ios_tree.specs.declared.item.MapHeader.{MapHeader as Header}
+use Rattle.ios_tree.specs.declared.item.MapLine.{MapLine}
+use Rattle.ios_tree.specs.declared.item.MapLine.TheVariants.{MatchPrefix, SetLocalPreference, Description}
 use Rattle.ios_meaning.specs.Lists.{prefix_list}
 use Rattle.ios_meaning.specs.Meaning.{line_holds, entry_holds, set_by_lines, deletes, set_by_entry, continuation_of}
 use Rattle.policy_program.specs.Plan.{IsPlainLine, IsPlainForm, HasPlainForm, first_name, guard_of, preferences_of, plain_holds}

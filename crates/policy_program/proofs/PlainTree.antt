@@ -3,23 +3,23 @@
 use Rattle.std.proofs.Common.{◌≡◌, refl, ℕ, ◌+◌, ◌-◌, ◌^◌, Bool, true, false, List, [], ◌∷◌, ◌++◌, Option, Some, None, arith}
 use Rattle.std.specs.Prelude.{IfSome, nat_le}
 use Rattle.std.specs.List.{AllByRecursion}
-use Rattle.policy_text.specs.declared.statement.Statement.{Statement}
-use Rattle.policy_text.specs.IosCut.{ios_cut}
+use Rattle.text_words.specs.declared.statement.Statement.{Statement}
+use Rattle.text_words.specs.IosCut.{ios_cut}
 use Rattle.policy_text.specs.Names.{or_else}
 use Rattle.policy_text.specs.Phrases.{texts}
 use Rattle.policy_text.proofs.Phrases.{prefix_spelled}
 use Rattle.route_types.proofs.Printed.{prefix_in_plain}
-use Rattle.ios_reader.specs.Spelling.{SpellLine, Spell}
-use Rattle.ios_reader.specs.Tree.{known_form, name_under, form_of, sort_of, belongs, opens, items_of, family_of, greatest_number, entry_with_number, numbered, numbered_item, numbered_from, ios_tree}
-use Rattle.ios_reader.specs.declared.item.ItemSort.{ItemSort}
-use Rattle.ios_reader.specs.declared.item.ItemSort.TheVariants.{PrefixList}
-use Rattle.ios_reader.specs.declared.item.IosForm.{IosForm}
-use Rattle.ios_reader.specs.declared.item.IosForm.TheVariants.{PrefixEntry, PrefixDescription, CommunityEntry, PathEntry, MapHeader, Line, Other}
-use Rattle.ios_reader.specs.declared.item.MapLine.{MapLine}
-use Rattle.ios_reader.specs.declared.item.MapLine.TheVariants.{MatchPrefix, SetLocalPreference}
-use Rattle.ios_reader.specs.declared.item.PrefixListEntry.{PrefixListEntry}
-use Rattle.ios_reader.specs.declared.item.IosItem.{IosItem}
-use Rattle.ios_reader.proofs.Spelled.{is_spelled}
+use Rattle.ios_tree.specs.Spelling.{SpellLine, Spell}
+use Rattle.ios_tree.specs.Tree.{known_form, name_under, form_of, sort_of, belongs, opens, items_of, family_of, greatest_number, entry_with_number, numbered, numbered_item, numbered_from, ios_tree}
+use Rattle.ios_tree.specs.declared.item.ItemSort.{ItemSort}
+use Rattle.ios_tree.specs.declared.item.ItemSort.TheVariants.{PrefixList}
+use Rattle.ios_tree.specs.declared.item.IosForm.{IosForm}
+use Rattle.ios_tree.specs.declared.item.IosForm.TheVariants.{PrefixEntry, PrefixDescription, CommunityEntry, PathEntry, MapHeader, Line, Other}
+use Rattle.ios_tree.specs.declared.item.MapLine.{MapLine}
+use Rattle.ios_tree.specs.declared.item.MapLine.TheVariants.{MatchPrefix, SetLocalPreference}
+use Rattle.ios_tree.specs.declared.item.PrefixListEntry.{PrefixListEntry}
+use Rattle.ios_tree.specs.declared.item.IosItem.{IosItem}
+use Rattle.ios_tree.proofs.Spelled.{is_spelled}
 use Rattle.rpl_reader.specs.Written.{IsPlainRange}
 use Rattle.policy_program.specs.Plan.{IsPlainLine, IsPlainForm, HasPlainForm}
 

@@ -10,11 +10,11 @@ use Rattle.route_types.specs.declared.address.Family.{Family}
 use Rattle.route_types.specs.declared.address.Family.TheVariants.{V4}
 use Rattle.prefix_sets.specs.Range.{RangeParts, in_range}
 use Rattle.prefix_sets.specs.FirstMatch.{first_match}
-use Rattle.ios_reader.specs.Tree.{family_of, is_of_list}
-use Rattle.ios_reader.specs.declared.item.PrefixListEntry.{PrefixListEntry}
-use Rattle.ios_reader.specs.declared.item.IosForm.{IosForm}
-use Rattle.ios_reader.specs.declared.item.IosForm.TheVariants.{PrefixEntry, PrefixDescription, CommunityEntry, PathEntry, MapHeader, Line, Other}
-use Rattle.ios_reader.specs.declared.item.IosItem.{IosItem}
+use Rattle.ios_tree.specs.Tree.{family_of, is_of_list}
+use Rattle.ios_tree.specs.declared.item.PrefixListEntry.{PrefixListEntry}
+use Rattle.ios_tree.specs.declared.item.IosForm.{IosForm}
+use Rattle.ios_tree.specs.declared.item.IosForm.TheVariants.{PrefixEntry, PrefixDescription, CommunityEntry, PathEntry, MapHeader, Line, Other}
+use Rattle.ios_tree.specs.declared.item.IosItem.{IosItem}
 use Rattle.ios_meaning.specs.Order.{in_order}
 use Rattle.ios_meaning.specs.Lists.{prefix_entry_from, prefix_entries, prefix_list}
 use Rattle.rpl_reader.specs.Written.{IsPlainRange}

@@ -1,7 +1,7 @@
 -- A text that writes a policy of a source is a right translation of it.
 use Rattle.std.proofs.Common.{◌≡◌, ℕ, List, sym, ap, subst, ◌∙◌}
-use Rattle.ios_reader.specs.declared.item.IosItem.{IosItem}
-use Rattle.ios_reader.specs.Tree.{ios_tree}
+use Rattle.ios_tree.specs.declared.item.IosItem.{IosItem}
+use Rattle.ios_tree.specs.Tree.{ios_tree}
 use Rattle.ios_reader.specs.Profile as ios
 use Rattle.ios_meaning.specs.Meaning.{ios_meaning}
 use Rattle.rpl_reader.specs.declared.item.RplForm.{RplForm}
@@ -11,7 +11,7 @@ use Rattle.rpl_reader.specs.Meaning.{rpl_meaning}
 use Rattle.rpl_reader.proofs.ReadBack.{reads_as}
 use Rattle.rpl_reader.proofs.WrittenProfile.{in_profile}
 use Rattle.rpl_reader.proofs.WrittenMeaning.{means_steps}
-use Rattle.ios_reader.specs.declared.item.Forms.TheVariants.{First}
+use Rattle.ios_reader.specs.declared.forms.Forms.TheVariants.{First}
 use Rattle.policy_program.specs.Checked.{IsSound}
 use Rattle.policy_program.specs.Translation.{IsTranslation}
 use Rattle.std.specs.Prelude.{Result, Ok, Err, Vec, MatchResult}

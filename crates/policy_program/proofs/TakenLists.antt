@@ -8,23 +8,23 @@ use Rattle.route_types.specs.Address.{same_family}
 use Rattle.route_types.specs.declared.address.Family.{Family}
 use Rattle.route_types.specs.declared.address.Family.TheVariants.{V4, V6}
 use Rattle.policy_text.specs.Names.{is_named}
-use Rattle.policy_text.specs.declared.statement.Span.{Span}
-use Rattle.ios_reader.specs.Tree.{family_of, is_of_list}
-use Rattle.ios_reader.specs.Sorts.{is_line, heads}
+use Rattle.text_words.specs.declared.statement.Span.{Span}
+use Rattle.ios_tree.specs.Tree.{family_of, is_of_list}
+use Rattle.ios_tree.specs.Sorts.{is_line, heads}
 use Rattle.ios_reader.specs.Entries.{Entry, onto_lines, lines_below, entry_from, entries_of}
 use Rattle.ios_reader.specs.Lines.{names_prefix_list}
 use Rattle.ios_reader.specs.Profile.{lines_of, fault_at, is_unknown, first_fault_within}
-use Rattle.ios_reader.specs.declared.item.Forms.TheVariants.{First}
-use Rattle.ios_reader.specs.declared.item.ItemSort.{ItemSort}
-use Rattle.ios_reader.specs.declared.item.ItemSort.TheVariants.{PrefixList, CommunityList, PathList, Map}
-use Rattle.ios_reader.specs.declared.item.ItemSort.TheVariants.{Line as LineSort}
-use Rattle.ios_reader.specs.declared.item.IosForm.{IosForm}
-use Rattle.ios_reader.specs.declared.item.IosForm.TheVariants.{PrefixEntry, PrefixDescription, CommunityEntry, PathEntry, MapHeader, Line, Other}
-use Rattle.ios_reader.specs.declared.item.IosItem.{IosItem}
-use Rattle.ios_reader.specs.declared.item.MapHeader.{MapHeader as Header}
-use Rattle.ios_reader.specs.declared.item.MapLine.{MapLine}
-use Rattle.ios_reader.specs.declared.item.MapLine.TheVariants.{MatchPrefix}
-use Rattle.ios_reader.specs.declared.item.PrefixListEntry.{PrefixListEntry}
+use Rattle.ios_reader.specs.declared.forms.Forms.TheVariants.{First}
+use Rattle.ios_tree.specs.declared.item.ItemSort.{ItemSort}
+use Rattle.ios_tree.specs.declared.item.ItemSort.TheVariants.{PrefixList, CommunityList, PathList, Map}
+use Rattle.ios_tree.specs.declared.item.ItemSort.TheVariants.{Line as LineSort}
+use Rattle.ios_tree.specs.declared.item.IosForm.{IosForm}
+use Rattle.ios_tree.specs.declared.item.IosForm.TheVariants.{PrefixEntry, PrefixDescription, CommunityEntry, PathEntry, MapHeader, Line, Other}
+use Rattle.ios_tree.specs.declared.item.IosItem.{IosItem}
+use Rattle.ios_tree.specs.declared.item.MapHeader.{MapHeader as Header}
+use Rattle.ios_tree.specs.declared.item.MapLine.{MapLine}
+use Rattle.ios_tree.specs.declared.item.MapLine.TheVariants.{MatchPrefix}
+use Rattle.ios_tree.specs.declared.item.PrefixListEntry.{PrefixListEntry}
 use Rattle.ios_meaning.specs.Lists.{prefix_entry_from, prefix_entries}
 use Rattle.policy_program.specs.Plan.{IsPlainLine, Plain, first_name, guard_of, plain_entries}
 use Rattle.policy_program.proofs.Taken.{Sound, sound_parts, form_taken}

@@ -8,9 +8,9 @@ use Rattle.route_types.specs.declared.address.Family.TheVariants.{V4}
 use Rattle.prefix_sets.specs.Range.{in_range}
 use Rattle.ios_reader.specs.Entries.{Entry, entries_of}
 use Rattle.ios_reader.specs.Profile.{first_fault_within}
-use Rattle.ios_reader.specs.declared.item.Forms.TheVariants.{First}
-use Rattle.ios_reader.specs.declared.item.IosItem.{IosItem}
-use Rattle.ios_reader.specs.declared.item.PrefixListEntry.{PrefixListEntry}
+use Rattle.ios_reader.specs.declared.forms.Forms.TheVariants.{First}
+use Rattle.ios_tree.specs.declared.item.IosItem.{IosItem}
+use Rattle.ios_tree.specs.declared.item.PrefixListEntry.{PrefixListEntry}
 use Rattle.ios_meaning.specs.Order.{in_order}
 use Rattle.rpl_reader.specs.Written.{IsPlainRange}
 use Rattle.policy_program.specs.Plan.{Plain, IsPlainLine, HasPlainForm, plain_entries, first_outcome, ranges_at, ranges_named, list_entries}

@@ -12,7 +12,7 @@ use Rattle.route_types.specs.declared.route.Outcome.{Outcome}
 use Rattle.route_types.specs.declared.route.Outcome.TheVariants.{Reject, Accept}
 use Rattle.route_types.specs.Change.{changed_by}
 use Rattle.route_types.specs.declared.change.Change.TheVariants.{LocalPreference}
-use Rattle.ios_reader.specs.declared.item.IosItem.{IosItem}
+use Rattle.ios_tree.specs.declared.item.IosItem.{IosItem}
 use Rattle.route_types.specs.declared.address.Family.TheVariants.{V4}
 use Rattle.prefix_sets.specs.FirstMatch.{first_match}
 use Rattle.ios_meaning.specs.Lists.{prefix_list}

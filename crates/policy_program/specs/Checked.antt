@@ -1,10 +1,10 @@
 -- What is said of a policy in a source: whether it is there, its first fault, and that it has none.
 use Rattle.std.specs.Prelude.{◌≡◌, ℕ, true, false, List, [], ◌∷◌, Result, Ok, Err, Some, None}
-use Rattle.policy_text.specs.declared.statement.Span.{Span}
+use Rattle.text_words.specs.declared.statement.Span.{Span}
 use Rattle.policy_text.specs.declared.fault.Cause.{Cause}
-use Rattle.ios_reader.specs.Tree.{ios_tree}
+use Rattle.ios_tree.specs.Tree.{ios_tree}
 use Rattle.ios_reader.specs.Profile.{PolicyParts, InProfile, is_defined, first_fault_within}
-use Rattle.ios_reader.specs.declared.item.Forms.{Forms}
+use Rattle.ios_reader.specs.declared.forms.Forms.{Forms}
 use Rattle.policy_program.specs.declared.refusal.Refusal.{Refusal}
 use Rattle.policy_program.specs.declared.refusal.Refusal.TheVariants.{NoPolicy, Outside, Route, Memory}
 

@@ -1,6 +1,6 @@
 -- How a run ends: for each status what stands with it, what `out` received and what `err` received.
 use Rattle.std.specs.Prelude.{◌≡◌, ℕ, ◌≤◌, ◌⊎◌, List, [], length, Option, Some, None, IfSome}
-use Rattle.policy_text.specs.declared.statement.Span.{Span}
+use Rattle.text_words.specs.declared.statement.Span.{Span}
 use Rattle.policy_text.specs.declared.fault.Cause.{Cause}
 use Rattle.policy_outside.specs.Counts.{Rose}
 use Rattle.policy_outside.specs.Texts.{IsTold, IsLonger}

@@ -1,9 +1,9 @@
 -- Which status is right for a request on the texts of a shelf, and when a run ends with it.
 use Rattle.std.specs.Prelude.{◌≡◌, ℕ, ◌⊎◌, Bool, true, false, nat_le, List, [], length, Option, Some, None, Result, Ok, Err, IfSome, is_ok}
-use Rattle.policy_text.specs.declared.statement.Span.{Span}
+use Rattle.text_words.specs.declared.statement.Span.{Span}
 use Rattle.policy_text.specs.declared.fault.Cause.{Cause}
 use Rattle.route_types.specs.RouteRead.{route_in}
-use Rattle.ios_reader.specs.Tree.{ios_tree}
+use Rattle.ios_tree.specs.Tree.{ios_tree}
 use Rattle.ios_reader.specs.Profile.{is_defined, first_fault_within}
 use Rattle.policy_outside.specs.Texts.{Texts, text_at}
 use Rattle.policy_program.specs.Command.{Request, Translate, Judge, Accepts, IsRefused}

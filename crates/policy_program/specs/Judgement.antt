@@ -4,9 +4,9 @@ use Rattle.route_types.specs.Route.{RouteParts}
 use Rattle.route_types.specs.RouteText.{SpellsRoute, IsFirstBadLine, route_text}
 use Rattle.route_types.specs.declared.route.Outcome.{Outcome}
 use Rattle.route_types.specs.declared.route.Outcome.TheVariants.{Reject, Accept}
-use Rattle.ios_reader.specs.Tree.{ios_tree}
+use Rattle.ios_tree.specs.Tree.{ios_tree}
 use Rattle.ios_reader.specs.Profile.{InProfile}
-use Rattle.ios_reader.specs.declared.item.Forms.TheVariants.{All}
+use Rattle.ios_reader.specs.declared.forms.Forms.TheVariants.{All}
 use Rattle.ios_meaning.specs.Meaning.{ios_meaning}
 use Rattle.policy_program.specs.Checked.{IsNoPolicy, IsFirstFault}
 use Rattle.policy_program.specs.Translated.{Answer}

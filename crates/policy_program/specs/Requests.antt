@@ -1,7 +1,7 @@
 -- What is said of a request of any verb: its policy, its files, the forms that it takes, and its right result.
 use Rattle.std.specs.Prelude.{◌≡◌, ℕ, List, Option, Some, None, true}
-use Rattle.ios_reader.specs.declared.item.Forms.{Forms}
-use Rattle.ios_reader.specs.declared.item.Forms.TheVariants.{All, First}
+use Rattle.ios_reader.specs.declared.forms.Forms.{Forms}
+use Rattle.ios_reader.specs.declared.forms.Forms.TheVariants.{All, First}
 use Rattle.route_types.specs.Route.{RouteParts}
 use Rattle.route_types.specs.RouteText.{SpellsRoute}
 use Rattle.rpl_reader.specs.Written.{is_new_name}

@@ -1,7 +1,7 @@
 -- What translation from IOS to RPL answers.
 use Rattle.std.specs.Prelude.{ℕ, List, Result, Ok, Err, Vec}
 use Rattle.std.specs.declared.alloc.Global.{Global}
-use Rattle.ios_reader.specs.declared.item.Forms.TheVariants.{First}
+use Rattle.ios_reader.specs.declared.forms.Forms.TheVariants.{First}
 use Rattle.policy_program.specs.Checked.{IsNoPolicy, IsFirstFault}
 use Rattle.policy_program.specs.Translation.{IsTranslation}
 use Rattle.policy_program.specs.declared.refusal.Refusal.{Refusal}

@@ -1,8 +1,8 @@
 -- The right answer of translate from IOS to RPL.
 use Rattle.std.specs.Prelude.{◌≡◌, ℕ, List, Some}
 use Rattle.route_types.specs.Route.{RouteParts, InRange}
-use Rattle.ios_reader.specs.Tree.{ios_tree}
-use Rattle.ios_reader.specs.declared.item.Forms.TheVariants.{First}
+use Rattle.ios_tree.specs.Tree.{ios_tree}
+use Rattle.ios_reader.specs.declared.forms.Forms.TheVariants.{First}
 use Rattle.ios_reader.specs.Profile as ios
 use Rattle.ios_meaning.specs.Meaning.{ios_meaning}
 use Rattle.rpl_reader.specs.declared.item.RplItem.{RplItem}

@@ -2,7 +2,7 @@
 use Rattle.std.specs.Prelude.{◌≡◌, ℕ, List}
 use Rattle.prefix_sets.specs.Range.{RangeParts}
 use Rattle.route_types.specs.Route.{RouteParts}
-use Rattle.ios_reader.specs.declared.item.IosItem.{IosItem}
+use Rattle.ios_tree.specs.declared.item.IosItem.{IosItem}
 use Rattle.ios_meaning.specs.Meaning.{ios_meaning}
 use Rattle.rpl_reader.specs.Layout.{Step, policy_text}
 use Rattle.rpl_reader.specs.Written.{IsWritable, steps_outcome}

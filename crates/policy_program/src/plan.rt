@@ -2,7 +2,7 @@
 // and steps that say the same.
 ghost use Rattle.std.specs.Prelude.{◌≡◌, ℕ, IfOk, OnOk, List, [], ◌∷◌, ◌++◌, map, option_map, bytes_eq, false};
 ghost use Rattle.std.specs.List.Sorted.{IsPermutation};
-ghost use Rattle.ios_reader.specs.Sorts.{is_line_sort, sort_of_form};
+ghost use Rattle.ios_tree.specs.Sorts.{is_line_sort, sort_of_form};
 ghost use Rattle.ios_reader.specs.Entries.{lines_below, entries_of};
 ghost use Rattle.ios_meaning.specs.Order.{in_order};
 ghost use Rattle.policy_program.specs.Steps.{step_of, steps_of, contents};

@@ -1,7 +1,7 @@
 // Translation of one policy from IOS to RPL.
 ghost use Rattle.std.specs.Prelude.{◌≡◌, true, None, MatchResult};
 ghost use Rattle.std.specs.List.{AllByRecursion};
-ghost use Rattle.ios_reader.specs.declared.item.Forms.TheVariants.{First};
+ghost use Rattle.ios_reader.specs.declared.forms.Forms.TheVariants.{First};
 ghost use Rattle.ios_reader.specs.Profile.{first_fault_within};
 ghost use Rattle.rpl_reader.specs.Written.{is_new_name};
 ghost use Rattle.policy_program.specs.Plan.{HasPlainForm};

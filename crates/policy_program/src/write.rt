@@ -1,7 +1,7 @@
 // Writing a policy in RPL: its plan, and the text of that.
 ghost use Rattle.std.specs.Prelude.{◌≡◌, ℕ, List, None, IfOk, true};
 ghost use Rattle.std.specs.List.{AllByRecursion};
-ghost use Rattle.ios_reader.specs.declared.item.Forms.TheVariants.{First};
+ghost use Rattle.ios_reader.specs.declared.forms.Forms.TheVariants.{First};
 ghost use Rattle.ios_reader.specs.Profile.{first_fault_within};
 ghost use Rattle.rpl_reader.specs.Written.{is_new_name, IsPlainRange};
 ghost use Rattle.policy_program.specs.Plan.{HasPlainForm, ranges_at, entry_views};

@@ -1,9 +1,9 @@
 -- Worked examples that the checker computes.
 use Rattle.std.proofs.Common.{◌≡◌, refl, List, [], ◌∷◌, ◌++◌, ℕ, map}
 use Rattle.std.specs.Prelude.{Some, None, codes}
-use Rattle.route_types.specs.Text.{lines_at}
+use Rattle.text_words.specs.Text.{lines_at}
 use Rattle.route_types.specs.Words.{number_in}
-use Rattle.policy_text.specs.IosCut.{ios_cut, words_at}
+use Rattle.text_words.specs.IosCut.{ios_cut, words_at}
 use Rattle.policy_text.specs.Phrases.{texts, after, only, each, some_each, name_in}
 
 -- a comment, a line in the first column and one behind a blank, with CR LF

@@ -1,4 +1,3 @@
-pub mod Walk
 pub mod Phrases
 pub mod Lengths
 mod Examples

@@ -5,7 +5,7 @@ unfoldable pub use Rattle.route_types.specs.RouteLines.{each_in as each}
 use Rattle.std.specs.Prelude.{ℕ, true, false, List, [], ◌∷◌, ◌++◌, Option, Some, None, bytes_eq, map}
 use Rattle.route_types.specs.Words.{◌>>=◌, when}
 use Rattle.policy_text.specs.Names.{is_name}
-use Rattle.policy_text.specs.declared.statement.Word.{Word}
+use Rattle.text_words.specs.declared.statement.Word.{Word}
 
 -- the texts of words
 abbrev pub texts : List Word → List (List ℕ)

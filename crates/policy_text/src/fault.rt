@@ -1,4 +1,4 @@
-use crate::statement::Span;
+use text_words::Span;
 
 /// Why a policy lies outside the profile. Where several stand at one statement, the first of this
 /// order is named.

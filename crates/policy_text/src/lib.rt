@@ -5,17 +5,14 @@
 #![tactic(auto)]
 
 mod fault;
-mod ios_cut;
 mod phrase;
-mod statement;
 
 pub use fault::{Cause, CheckFault};
-pub use ios_cut::ios_statements;
 pub use phrase::{
     address_alone, after, bounds, copied, is, is_name, name_alone, number_alone, numbers, parts_at,
 };
 pub use route_types::{read_address, read_community, read_number, read_prefix};
-pub use statement::{Ender, Span, Statement, Word};
+pub use text_words::{Ender, Span, Statement, Word, ios_statements};
 
 #[cfg(test)]
 mod tests;

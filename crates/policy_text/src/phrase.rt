@@ -5,9 +5,9 @@ ghost use Rattle.policy_text.specs.Bounds.{one_bound_in, bounds_in};
 ghost use Rattle.policy_text.specs.Names.{is_mark, is_name};
 ghost use Rattle.policy_text.specs.Phrases.{texts, after, only, each, each_onto, some_each, name_in};
 
-use crate::statement::Word;
 use route_types::{Address, Memory, Row, read_address, read_number};
 use std::alloc::Global;
+use text_words::Word;
 
 /// Whether a word has this text.
 pub fn is(word: &Word, text: &[u8]) -> bool

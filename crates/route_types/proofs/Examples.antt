@@ -1,7 +1,7 @@
 -- Worked examples that the checker computes.
 use Rattle.std.proofs.Common.{◌≡◌, refl, [], ◌∷◌, ◌++◌, map}
 use Rattle.std.specs.Prelude.{Some, None, codes}
-use Rattle.route_types.specs.Text.{lines_at}
+use Rattle.text_words.specs.Text.{lines_at}
 use Rattle.route_types.specs.Words.{number_in, prefix_in, parts_at, address_in, community_in}
 use Rattle.route_types.specs.declared.address.Family.TheVariants.{V4}
 

@@ -6,9 +6,9 @@ use Rattle.std.proofs.lemmas.Bool.{eq-eqb, ne_eqb, or_from}
 use Rattle.route_types.specs.Words.{parts_at, ◌>>=◌}
 use Rattle.route_types.proofs.Numbers.{bind_found, some_is}
 use Rattle.route_types.proofs.Spelled.{parts_at_found}
-use Rattle.route_types.specs.Text.{Line, starts_with_byte, starting_at, onto_line, lines_at, without_return}
+use Rattle.text_words.specs.Text.{Line, starts_with_byte, starting_at, onto_line, lines_at, without_return}
 use Rattle.route_types.specs.RouteText.{words_in, words_by_line, file_lines, without_empty_end, onto_word}
-use Rattle.route_types.proofs.Lines.{HasNoLineEnd, IsPlainLine, lines_at_line, lines_at_last, lines_at_plain}
+use Rattle.text_words.proofs.Lines.{HasNoLineEnd, IsPlainLine, lines_at_line, lines_at_last, lines_at_plain}
 
 abbrev bytes_of : List Line → List (List ℕ)
 bytes_of ls = map (λ l. l.bytes) ls

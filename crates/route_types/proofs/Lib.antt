@@ -6,7 +6,6 @@ pub mod Walk
 pub mod Parts
 pub mod Printed
 pub mod Bits
-pub mod Lines
 pub mod Sets
 pub mod Sorted
 pub mod LineWords

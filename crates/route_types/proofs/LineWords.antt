@@ -5,7 +5,7 @@ use Rattle.std.specs.List.{position, position_or_len, prefix_len}
 use Rattle.std.proofs.lemmas.Bool.{ltb-false}
 use Rattle.std.proofs.lemmas.List.Sums.{prefix_len-le-length}
 use Rattle.std.proofs.lemmas.List.{length-drop}
-use Rattle.route_types.specs.Text.{is_blank}
+use Rattle.text_words.specs.Text.{is_blank}
 use Rattle.route_types.specs.RouteText.{words_in, words_from_byte, goes_on}
 use Rattle.route_types.specs.RouteLines.{word_size, blanks}
 

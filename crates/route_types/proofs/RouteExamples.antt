@@ -1,7 +1,7 @@
 -- Worked examples of route texts that the checker computes.
 use Rattle.std.proofs.Common.{◌≡◌, refl, ℕ, List, [], ◌∷◌, ◌++◌}
 use Rattle.std.specs.Prelude.{Ok, Err, codes}
-use Rattle.route_types.specs.Text.{lines_at}
+use Rattle.text_words.specs.Text.{lines_at}
 use Rattle.route_types.specs.Words.{number_in, prefix_in, parts_at, address_in, community_in}
 use Rattle.route_types.specs.RouteText.{file_lines, words_in, words_by_line}
 use Rattle.route_types.specs.RouteLines.{word_in, each_in, next_hop_in, origin_in}

@@ -5,7 +5,7 @@ use Rattle.std.specs.List.{list_any, AllByRecursion}
 use Rattle.std.proofs.lemmas.Bool.{or_parts, or_from, ne_eqb}
 use Rattle.std.proofs.lemmas.List.{append-nil}
 use Rattle.std.proofs.lemmas.List.Folds.{list_any-append}
-use Rattle.route_types.specs.Text.{is_blank}
+use Rattle.text_words.specs.Text.{is_blank}
 use Rattle.route_types.specs.Address.{PrefixParts}
 use Rattle.route_types.specs.Words.{IsNumber, IsAddress, IsCommunity}
 use Rattle.route_types.specs.Print.{octets_of, address_text, prefix_text}
@@ -19,7 +19,7 @@ use Rattle.route_types.specs.declared.route.NextHop.{NextHop}
 use Rattle.route_types.specs.declared.route.NextHop.TheVariants.{At, Own}
 use Rattle.route_types.specs.declared.route.Origin.{Origin}
 use Rattle.route_types.specs.declared.route.Origin.TheVariants.{Igp, Egp, Incomplete}
-use Rattle.route_types.proofs.Lines.{IsPlainLine}
+use Rattle.text_words.proofs.Lines.{IsPlainLine}
 use Rattle.route_types.proofs.LineWords.{blank_taken}
 use Rattle.route_types.proofs.FileLines.{words_by_line_plain, no_lines}
 use Rattle.route_types.proofs.Numbers.{StartsWithDigit, decimal_avoids, decimal_starts}

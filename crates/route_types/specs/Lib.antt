@@ -2,7 +2,6 @@ pub mod Address
 pub mod Community
 pub mod Route
 pub mod Change
-pub mod Text
 pub mod Words
 pub mod Walk
 pub mod Print

@@ -1,7 +1,7 @@
 -- What each line of a route's text says, as functions that find it in the line's words.
 use Rattle.std.specs.Prelude.{ℕ, true, false, not, List, [], ◌∷◌, Option, Some, None, bytes_eq, codes}
 use Rattle.std.specs.List.{position_or_len}
-use Rattle.route_types.specs.Text.{is_blank}
+use Rattle.text_words.specs.Text.{is_blank}
 use Rattle.route_types.specs.Address.{PrefixParts}
 use Rattle.route_types.specs.Words.{when, number_in, address_in, prefix_in, community_in, ◌>>=◌}
 use Rattle.route_types.specs.Community.{set_of}

@@ -1,6 +1,6 @@
 -- The text of a route: eight lines, their words, and what each line says of the route.
 use Rattle.std.specs.Prelude.{◌≡◌, ℕ, ◌+◌, ◌/◌, ◌%◌, ◌^◌, ◌<◌, Bool, true, false, not, List, [], ◌∷◌, ◌++◌, map, flat_map, Option, Some, None, slice_get, codes, decimal}
-use Rattle.route_types.specs.Text.{is_blank, lines_at}
+use Rattle.text_words.specs.Text.{is_blank, lines_at}
 use Rattle.route_types.specs.Words.{IsNumber, IsAddress, IsPrefix, IsCommunity}
 use Rattle.route_types.specs.Print.{address_text, prefix_text}
 use Rattle.route_types.specs.Route.{RouteParts}

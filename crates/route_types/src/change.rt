@@ -3,10 +3,9 @@ ghost use Rattle.route_types.specs.Community.{set_after};
 ghost use Rattle.route_types.specs.Change.{changed};
 
 use crate::community::{CommChange, set_after};
-use crate::memory::Memory;
 use crate::route::{NextHop, Origin, Route};
-use crate::row::Row;
 use std::alloc::Global;
+use text_words::{Memory, Row};
 
 /// A change of one attribute of a route.
 #[derive(Debug, Drop)]

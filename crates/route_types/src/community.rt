@@ -2,10 +2,9 @@ ghost use Rattle.std.specs.Prelude.{◌≡◌, ◌≤◌, ◌++◌, ◌/◌, ◌
 ghost use Rattle.std.specs.List.{list_any};
 ghost use Rattle.route_types.specs.Community.{fits, set_of, set_after};
 
-use crate::memory::Memory;
-use crate::row::Row;
 use std::alloc::Global;
 use std::marker::Model;
+use text_words::{Memory, Row};
 
 /// A community (RFC 1997): 32 bits, written as its upper and its lower half, `a:b`.
 #[derive(Clone, Copy, Debug, PartialEq, Eq, PartialOrd, Ord, Hash)]

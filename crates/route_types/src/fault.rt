@@ -1,7 +1,7 @@
 ghost use Rattle.std.specs.Prelude.{◌≡◌};
 ghost use Rattle.route_types.specs.declared.fault.RouteFault.TheVariants.{Memory as IsMemory};
 
-use crate::memory::Memory;
+use text_words::Memory;
 
 /// Why a text spells no route.
 #[derive(Clone, Copy, Debug, PartialEq, Eq)]

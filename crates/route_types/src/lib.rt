@@ -12,12 +12,10 @@ mod community;
 mod fault;
 mod laws;
 mod line_words;
-mod memory;
 mod print;
 mod route;
 mod route_print;
 mod route_text;
-mod row;
 mod words;
 
 pub use address::{Address, Family, Prefix};
@@ -25,12 +23,11 @@ pub use change::{Change, apply_change};
 pub use community::{CommChange, Community, Rect};
 pub use fault::RouteFault;
 pub use laws::route_texts;
-pub use memory::Memory;
 pub use print::{push_address, push_number, push_prefix};
 pub use route::{NextHop, Origin, Outcome, Route, new_route};
 pub use route_print::print_route;
 pub use route_text::read_route;
-pub use row::Row;
+pub use text_words::{Memory, Row};
 pub use words::{read_address, read_community, read_number, read_prefix};
 
 #[cfg(test)]

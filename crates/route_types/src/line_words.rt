@@ -1,5 +1,5 @@
 ghost use Rattle.std.specs.Prelude.{◌≡◌, ◌<◌, ◌∷◌, [], not, length, position, option_map, IfSome, MatchOption};
-ghost use Rattle.route_types.specs.Text.{is_blank, without_return};
+ghost use Rattle.text_words.specs.Text.{is_blank, without_return};
 ghost use Rattle.route_types.specs.RouteText.{words_in, words_by_line};
 ghost use Rattle.route_types.specs.RouteLines.{word_size, blanks, words_behind, only_word, word_in};
 

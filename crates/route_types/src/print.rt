@@ -2,8 +2,8 @@ ghost use Rattle.std.specs.Prelude.{◌≡◌, ◌<◌, ◌^◌, ◌++◌, ◌�
 ghost use Rattle.route_types.specs.Print.{octets_of, address_text, prefix_text};
 
 use crate::address::{Address, Prefix};
-use crate::memory::Memory;
 use itoa::Buffer;
+use text_words::Memory;
 
 /// Puts a number's decimal text at the end of `out`, without leading zeros. Its one error is want
 /// of memory.

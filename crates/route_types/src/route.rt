@@ -3,10 +3,9 @@ ghost use Rattle.route_types.specs.Community.{IsAscending, set_of};
 
 use crate::address::{Address, Prefix};
 use crate::community::{Community, set_of};
-use crate::memory::Memory;
-use crate::row::Row;
 use std::alloc::Global;
 use std::marker::Model;
+use text_words::{Memory, Row};
 
 /// The ORIGIN attribute (RFC 4271, section 5.1.1).
 #[derive(Clone, Copy, Debug, PartialEq, Eq)]

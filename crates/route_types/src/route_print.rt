@@ -4,10 +4,10 @@ ghost use Rattle.route_types.specs.RouteText.{origin_text, next_hop_text, commun
 
 use crate::address::Prefix;
 use crate::community::Community;
-use crate::memory::Memory;
 use crate::print::{push_address, push_number, push_prefix};
 use crate::route::{NextHop, Origin, Route};
 use std::alloc::Global;
+use text_words::Memory;
 
 // A name and a space.
 fn push_name(out: &mut Vec<u8>, name: &[u8]) -> Result<(), Memory>

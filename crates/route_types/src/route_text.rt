@@ -9,11 +9,10 @@ use crate::address::Prefix;
 use crate::community::{Community, set_of};
 use crate::fault::RouteFault;
 use crate::line_words::{behind, next_line, next_word, word_behind};
-use crate::memory::Memory;
 use crate::route::{NextHop, Origin, Route};
-use crate::row::Row;
 use crate::words::{read_address, read_community, read_number, read_prefix};
 use std::alloc::Global;
+use text_words::{Memory, Row};
 
 // ---- what a line says
 

@@ -9,10 +9,10 @@ use Rattle.policy_text.specs.Names.{first_some, or_else}
 use Rattle.route_types.specs.Print.{prefix_text}
 use Rattle.prefix_sets.specs.Range.{RangeParts}
 use Rattle.route_types.specs.Words.{◌>>=◌, prefix_in}
-use Rattle.policy_text.specs.declared.statement.Ender.TheVariants.{Comma, Plain}
-use Rattle.policy_text.specs.declared.statement.Span.{Span}
-use Rattle.policy_text.specs.declared.statement.Word.{Word}
-use Rattle.policy_text.specs.declared.statement.Statement.{Statement}
+use Rattle.text_words.specs.declared.statement.Ender.TheVariants.{Comma, Plain}
+use Rattle.text_words.specs.declared.statement.Span.{Span}
+use Rattle.text_words.specs.declared.statement.Word.{Word}
+use Rattle.text_words.specs.declared.statement.Statement.{Statement}
 use Rattle.route_types.proofs.Numbers.{number_in_spelled}
 use Rattle.route_types.proofs.Printed.{prefix_in_printed}
 use Rattle.rpl_reader.specs.declared.item.BlockKind.TheVariants.{PrefixSet as PrefixSetKind}

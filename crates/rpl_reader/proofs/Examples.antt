@@ -2,7 +2,7 @@
 use Rattle.std.proofs.Common.{◌≡◌, refl, lit<, lit≤, List, [], ◌∷◌, ◌++◌, ℕ, true}
 use Rattle.std.specs.Prelude.{Some, None, codes, option_map}
 use Rattle.std.specs.Fmt.{digits}
-use Rattle.route_types.specs.Text.{lines_at}
+use Rattle.text_words.specs.Text.{lines_at}
 use Rattle.route_types.specs.Words.{number_in, prefix_in, parts_at, address_in}
 use Rattle.route_types.specs.Route.{RouteParts}
 use Rattle.route_types.specs.declared.address.Family.TheVariants.{V4}

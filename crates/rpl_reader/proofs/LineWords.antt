@@ -4,10 +4,10 @@ use Rattle.std.specs.Prelude.{◌==◌}
 use Rattle.std.specs.List.{list_any}
 use Rattle.std.proofs.lemmas.Bool.{or_from, or_parts, and_left}
 use Rattle.std.proofs.lemmas.List.Folds.{list_any-append}
-use Rattle.route_types.specs.Text.{is_blank, starts_with_byte, Line, lines_at}
-use Rattle.policy_text.specs.declared.statement.Span.{Span}
-use Rattle.policy_text.specs.declared.statement.Word.{Word}
-use Rattle.route_types.proofs.Lines.{IsPlainLine, lines_at_plain}
+use Rattle.text_words.specs.Text.{is_blank, starts_with_byte, Line, lines_at}
+use Rattle.text_words.specs.declared.statement.Span.{Span}
+use Rattle.text_words.specs.declared.statement.Word.{Word}
+use Rattle.text_words.proofs.Lines.{IsPlainLine, lines_at_plain}
 use Rattle.rpl_reader.specs.Words.{is_single, word_of_byte, onto_word, goes_on, words_at}
 use Rattle.rpl_reader.specs.Cut.{LineWord, marked, line_words, line_ends}
 use Rattle.rpl_reader.proofs.WordBytes.{is_breaking, IsPlainWord}

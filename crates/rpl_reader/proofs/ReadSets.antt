@@ -4,7 +4,7 @@ use Rattle.std.specs.Prelude.{codes}
 use Rattle.std.specs.List.{AllByRecursion}
 use Rattle.route_types.specs.Print.{prefix_text}
 use Rattle.prefix_sets.specs.Range.{RangeParts}
-use Rattle.policy_text.specs.declared.statement.Span.{Span}
+use Rattle.text_words.specs.declared.statement.Span.{Span}
 use Rattle.rpl_reader.specs.declared.item.BlockKind.{BlockKind}
 use Rattle.rpl_reader.specs.declared.item.BlockKind.TheVariants.{PrefixSet as PrefixSetKind}
 use Rattle.rpl_reader.specs.declared.item.RplForm.{RplForm}

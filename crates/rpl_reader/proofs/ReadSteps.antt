@@ -2,7 +2,7 @@
 use Rattle.std.proofs.Common.{◌≡◌, refl, sym, ap, subst, subst₂, ℕ, ◌^◌, ◌<◌, Bool, true, false, ◌||◌, List, [], ◌∷◌, ◌++◌, map, append_assoc, arith, Option, Some, None}
 use Rattle.std.specs.Prelude.{codes, bytes_eq, decimal, IfSome}
 use Rattle.std.specs.List.{list_any, AllByRecursion}
-use Rattle.policy_text.specs.declared.statement.Span.{Span}
+use Rattle.text_words.specs.declared.statement.Span.{Span}
 use Rattle.rpl_reader.specs.declared.item.BlockKind.TheVariants.{Policy}
 use Rattle.rpl_reader.specs.declared.item.RplForm.{RplForm}
 use Rattle.rpl_reader.specs.declared.item.RplForm.TheVariants.{If, EndIf, SetLocalPreference, End}

@@ -4,9 +4,9 @@ use Rattle.std.specs.Prelude.{codes, bytes_eq, decimal, option_map}
 use Rattle.std.proofs.lemmas.Bool.{or_from, or_right}
 use Rattle.route_types.specs.Words.{◌>>=◌, when}
 use Rattle.policy_text.specs.Names.{first_some, or_else}
-use Rattle.policy_text.specs.declared.statement.Span.{Span}
-use Rattle.policy_text.specs.declared.statement.Statement.{Statement}
-use Rattle.policy_text.specs.declared.statement.Ender.TheVariants.{Line as EndsLine, Plain}
+use Rattle.text_words.specs.declared.statement.Span.{Span}
+use Rattle.text_words.specs.declared.statement.Statement.{Statement}
+use Rattle.text_words.specs.declared.statement.Ender.TheVariants.{Line as EndsLine, Plain}
 use Rattle.route_types.proofs.Numbers.{number_in_spelled}
 use Rattle.rpl_reader.specs.declared.item.BlockKind.{BlockKind}
 use Rattle.rpl_reader.specs.declared.item.BlockKind.TheVariants.{PrefixSet as PrefixSetKind, Policy}

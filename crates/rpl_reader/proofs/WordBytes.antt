@@ -9,7 +9,7 @@ use Rattle.std.proofs.lemmas.Fmt.{decimal_nonempty}
 use Rattle.route_types.specs.Address.{PrefixParts, IsMasked, width}
 use Rattle.policy_text.specs.Names.{is_mark}
 use Rattle.route_types.specs.Print.{prefix_text, octets_of}
-use Rattle.route_types.specs.Text.{starts_with_byte}
+use Rattle.text_words.specs.Text.{starts_with_byte}
 use Rattle.route_types.specs.Words.{is_digit, dotted}
 use Rattle.route_types.specs.declared.address.Family.{Family}
 use Rattle.route_types.specs.declared.address.Family.TheVariants.{V4}

@@ -3,12 +3,12 @@
 -- commas are statements; in a policy a statement starts at certain words.
 use Rattle.std.specs.Prelude.{ℕ, Bool, true, false, ◌&&◌, ◌||◌, not, List, [], ◌∷◌, Option, Some, None, codes, bytes_eq, flat_map, map}
 use Rattle.std.specs.List.{list_any}
-use Rattle.route_types.specs.Text.{starts_with_byte, Line, lines_at}
-use Rattle.policy_text.specs.declared.statement.Span.{Span}
-use Rattle.policy_text.specs.declared.statement.Word.{Word}
-use Rattle.policy_text.specs.declared.statement.Ender.{Ender}
-use Rattle.policy_text.specs.declared.statement.Ender.TheVariants.{Line as EndsLine, Comma, Plain}
-use Rattle.policy_text.specs.declared.statement.Statement.{Statement}
+use Rattle.text_words.specs.Text.{starts_with_byte, Line, lines_at}
+use Rattle.text_words.specs.declared.statement.Span.{Span}
+use Rattle.text_words.specs.declared.statement.Word.{Word}
+use Rattle.text_words.specs.declared.statement.Ender.{Ender}
+use Rattle.text_words.specs.declared.statement.Ender.TheVariants.{Line as EndsLine, Comma, Plain}
+use Rattle.text_words.specs.declared.statement.Statement.{Statement}
 use Rattle.rpl_reader.specs.declared.item.BlockKind.{BlockKind}
 use Rattle.rpl_reader.specs.declared.item.BlockKind.TheVariants.{PrefixSet, CommunitySet, PathSet, Policy}
 use Rattle.rpl_reader.specs.Words.{words_at}

@@ -2,12 +2,12 @@
 use Rattle.std.specs.Prelude.{ℕ, ◌-◌, ◌^◌, Bool, true, false, ◌&&◌, not, List, [], ◌∷◌, Option, Some, None, codes, bytes_eq, nat_le, option_map}
 use Rattle.std.specs.List.{list_any}
 use Rattle.route_types.specs.Words.{◌>>=◌, when, number_in, address_in, prefix_in}
-use Rattle.route_types.specs.Text.{starts_with_byte}
+use Rattle.text_words.specs.Text.{starts_with_byte}
 use Rattle.policy_text.specs.Names.{is_name, first_some}
 use Rattle.policy_text.specs.Bounds.{bounds_in}
 use Rattle.route_types.specs.Address.{PrefixParts, prefix_of}
 use Rattle.prefix_sets.specs.Range.{RangeParts}
-use Rattle.policy_text.specs.declared.statement.Word.{Word}
+use Rattle.text_words.specs.declared.statement.Word.{Word}
 use Rattle.rpl_reader.specs.declared.item.RplForm.{RplForm}
 use Rattle.rpl_reader.specs.declared.item.RplForm.TheVariants.{PrefixSet, RoutePolicy, If, EndIf, SetLocalPreference, Done, Drop}
 use Rattle.rpl_reader.specs.declared.item.RplTest.TheVariants.{Destination}

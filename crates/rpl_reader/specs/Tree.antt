@@ -3,8 +3,8 @@
 use Rattle.std.specs.Prelude.{ℕ, Bool, true, false, ◌&&◌, List, [], ◌∷◌, Option, Some, None, codes, option_map, slice_get, map}
 use Rattle.route_types.specs.Words.{◌>>=◌, when}
 use Rattle.policy_text.specs.Names.{first_some, or_else}
-use Rattle.policy_text.specs.declared.statement.Word.{Word}
-use Rattle.policy_text.specs.declared.statement.Statement.{Statement}
+use Rattle.text_words.specs.declared.statement.Word.{Word}
+use Rattle.text_words.specs.declared.statement.Statement.{Statement}
 use Rattle.rpl_reader.specs.declared.item.BlockKind.{BlockKind}
 use Rattle.rpl_reader.specs.declared.item.BlockKind.TheVariants.{PrefixSet, CommunitySet, PathSet, Policy}
 use Rattle.rpl_reader.specs.declared.item.RplForm.{RplForm}

@@ -1,10 +1,10 @@
 -- The words of an RPL line: runs of bytes that are no blanks; a parenthesis or a comma is a word of its
 -- own; `'` opens a quoted word up to the next `'` of the line, and without one it is an ordinary byte.
-pub use Rattle.policy_text.specs.ByteWords.{word_of_byte, onto_word}
+pub use Rattle.text_words.specs.ByteWords.{word_of_byte, onto_word}
 use Rattle.std.specs.Prelude.{ℕ, ◌+◌, Bool, true, false, ◌&&◌, ◌||◌, not, ◌==◌, List, [], ◌∷◌}
 use Rattle.std.specs.List.{list_any}
-use Rattle.route_types.specs.Text.{is_blank}
-use Rattle.policy_text.specs.declared.statement.Word.{Word}
+use Rattle.text_words.specs.Text.{is_blank}
+use Rattle.text_words.specs.declared.statement.Word.{Word}
 
 -- a parenthesis or a comma
 abbrev pub is_single : ℕ → Bool

@@ -1,6 +1,6 @@
 use Rattle.std.proofs.Common.{◌≡◌, length}
 use Rattle.std.specs.List.{list_any}
-use Rattle.ios_reader.specs.Sorts.{heads}
+use Rattle.ios_tree.specs.Sorts.{heads}
 use Rattle.ios_reader.proofs.check.is_defined.Given as goal
 
 abbrev pub invariant-loop-rest : goal.invariant-loop-rest

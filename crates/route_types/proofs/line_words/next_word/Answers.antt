@@ -1,7 +1,7 @@
 use Rattle.std.proofs.Common.{◌<◌, length, arith}
 use Rattle.std.specs.Prelude.{not}
 use Rattle.std.proofs.lemmas.List.Sums.{prefix_len-le-length}
-use Rattle.route_types.specs.Text.{is_blank}
+use Rattle.text_words.specs.Text.{is_blank}
 use Rattle.route_types.specs.RouteLines.{blanks}
 use Rattle.route_types.proofs.LineWords.{no_words, first_word, rest_by_steps}
 use Rattle.route_types.proofs.line_words.next_word.Goals as goal

@@ -1,0 +1,66 @@
+-- An option at the end of a line, both ways.
+use Rattle.std.proofs.Common.{◌≡◌, refl, ap, ◌∙◌, ℕ, suc, ◌≤◌, Bool, true, false, List, [], ◌∷◌, ◌++◌, length, length-append, arith}
+use Rattle.std.specs.Prelude.{bytes_eq}
+use Rattle.std.proofs.lemmas.Slice.Eq.{bytes_eq-Decides}
+use Rattle.ios_tree.specs.Forms.{option_in}
+use Rattle.ios_tree.specs.Spelling.{SpellOption}
+use Rattle.ios_tree.proofs.WordsSpelled.{same_bytes}
+
+same_tail : (a b : List ℕ) (xs ys : List (List ℕ)) → a ∷ xs ≡ b ∷ ys → (a ≡ b) × (xs ≡ ys)
+same_tail a b xs ys e = (cc, cc)
+
+-- too few words for an option behind another word
+too_few : (ws : List (List ℕ)) (key first : List ℕ) (front : List (List ℕ)) → length ws ≤ 1 → ws ≡ first ∷ (front ++ (key ∷ [])) → ⊥
+too_few ws key first front short e =
+    let k : length ws ≡ suc (length (front ++ (key ∷ []))) = ap (λ (xs : List (List ℕ)). length xs) e in
+    absurd (omega (arith, k, length-append front (key ∷ [])))
+
+-- the last of two words is another one
+last_other : (key w v first : List ℕ) (front : List (List ℕ)) → bytes_eq v key ≡ false → w ∷ v ∷ [] ≡ first ∷ (front ++ (key ∷ [])) → ⊥
+last_other key w v first [] other e =
+    let same = same_tail v key [] [] (same_tail w first (v ∷ []) (key ∷ []) e).1 in
+    let k : bytes_eq v key ≡ true = (bytes_eq-Decides v key).1 same.0 in
+    absurd cc
+last_other key w v first (x ∷ xs) other e = too_few (v ∷ []) key x xs (omega arith) (same_tail w first (v ∷ []) (x ∷ (xs ++ (key ∷ []))) e).1
+
+two_found : (t : Bool) (key w v : List ℕ) → bytes_eq v key ≡ t → let o : List (List ℕ) × Bool = elim t [ true ↦ (w ∷ [], true) | false ↦ (w ∷ v ∷ [], false) ] in SpellOption key (w ∷ v ∷ []) o.1 o.0
+two_found true key w v t = ap (λ (x : List ℕ). w ∷ x ∷ []) (same_bytes v key t)
+two_found false key w v t = (refl, λ first front e. last_other key w v first front t e)
+
+longer : (key w : List ℕ) (ws : List (List ℕ)) (first : List ℕ) (front : List (List ℕ)) → 2 ≤ length ws → ((x : List ℕ) (xs : List (List ℕ)) → ws ≡ x ∷ (xs ++ (key ∷ [])) → ⊥) → w ∷ ws ≡ first ∷ (front ++ (key ∷ [])) → ⊥
+longer key w ws first [] long h e = let k = ap (λ (xs : List (List ℕ)). length xs) (same_tail w first ws (key ∷ []) e).1 in absurd (omega (arith, k))
+longer key w ws first (x ∷ xs) long h e = h x xs (same_tail w first ws (x ∷ (xs ++ (key ∷ []))) e).1
+
+-- one more word in front
+more_found : (key w : List ℕ) (ws : List (List ℕ)) (words : List (List ℕ)) (t : Bool) → 2 ≤ length ws → SpellOption key ws t words → SpellOption key (w ∷ ws) t (w ∷ words)
+more_found key w ws words true long h = ap (λ (x : List (List ℕ)). w ∷ x) h
+more_found key w ws words false long h = (ap (λ (x : List (List ℕ)). w ∷ x) h.0, λ first front e. longer key w ws first front long h.1 e)
+
+-- what is found is spelled
+pub option_found : (key : List ℕ) (ws : List (List ℕ)) → SpellOption key ws (option_in key ws).1 (option_in key ws).0
+option_found key [] = (refl, λ first front e. too_few [] key first front (omega arith) e)
+option_found key (w ∷ []) = (refl, λ first front e. too_few (w ∷ []) key first front (omega arith) e)
+option_found key (w ∷ v ∷ []) = two_found (bytes_eq v key) key w v refl
+option_found key (w ∷ v ∷ u ∷ ws) = more_found key w (v ∷ u ∷ ws) (option_in key (v ∷ u ∷ ws)).0 (option_in key (v ∷ u ∷ ws)).1 (omega arith) (option_found key (v ∷ u ∷ ws))
+
+-- ---- what is spelled is found
+
+taken : (key : List ℕ) (words : List (List ℕ)) → 1 ≤ length words → option_in key (words ++ (key ∷ [])) ≡ (words, true)
+taken key [] some = absurd (omega arith)
+taken key (w ∷ []) some = rw ((bytes_eq-Decides key key).1 refl, option_in) refl
+taken key (w ∷ v ∷ []) some = ap (λ (x : List (List ℕ) × Bool). (w ∷ x.0, x.1)) (taken key (v ∷ []) (omega arith))
+taken key (w ∷ v ∷ u ∷ ws) some = ap (λ (x : List (List ℕ) × Bool). (w ∷ x.0, x.1)) (taken key (v ∷ u ∷ ws) (omega arith))
+
+two_left : (t : Bool) (key w v : List ℕ) → bytes_eq v key ≡ t → ((first : List ℕ) (front : List (List ℕ)) → w ∷ v ∷ [] ≡ first ∷ (front ++ (key ∷ [])) → ⊥) → ◌≡◌ {A = List (List ℕ) × Bool} (elim t [ true ↦ (w ∷ [], true) | false ↦ (w ∷ v ∷ [], false) ]) (w ∷ v ∷ [], false)
+two_left true key w v t h = absurd (h w [] (ap (λ (x : List ℕ). w ∷ x ∷ []) (same_bytes v key t)))
+two_left false key w v t h = refl
+
+left : (key : List ℕ) (ws : List (List ℕ)) → ((first : List ℕ) (front : List (List ℕ)) → ws ≡ first ∷ (front ++ (key ∷ [])) → ⊥) → option_in key ws ≡ (ws, false)
+left key [] h = refl
+left key (w ∷ []) h = refl
+left key (w ∷ v ∷ []) h = two_left (bytes_eq v key) key w v refl h
+left key (w ∷ v ∷ u ∷ ws) h = ap (λ (x : List (List ℕ) × Bool). (w ∷ x.0, x.1)) (left key (v ∷ u ∷ ws) (λ first front e. h w (first ∷ front) (ap (λ (x : List (List ℕ)). w ∷ x) e)))
+
+pub option_spelled : (key : List ℕ) (ws words : List (List ℕ)) (t : Bool) → 1 ≤ length words → SpellOption key ws t words → option_in key ws ≡ (words, t)
+option_spelled key ws words true some h = ap (λ (x : List (List ℕ)). option_in key x) h ∙ taken key words some
+option_spelled key ws words false some h = left key ws h.1 ∙ ap (λ (x : List (List ℕ)). (x, false)) h.0

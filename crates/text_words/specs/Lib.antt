@@ -1,0 +1,4 @@
+pub mod Text
+pub mod ByteWords
+pub mod IosCut
+pub mod Lines
