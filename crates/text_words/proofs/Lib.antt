@@ -1,2 +1,3 @@
+pub mod Lexes
 pub mod Lines
 pub mod Walk

@@ -1,4 +1,7 @@
 pub mod Text
+pub mod Pieces
+pub mod Signs
+pub mod Lexes
 pub mod ByteWords
 pub mod IosCut
 pub mod Lines

@@ -4,10 +4,12 @@
 
 mod ios_cut;
 mod memory;
+mod push;
 mod row;
 mod statement;
 
 pub use ios_cut::ios_statements;
 pub use memory::Memory;
+pub use push::push_words;
 pub use row::Row;
 pub use statement::{Ender, Span, Statement, Word};
