@@ -119,8 +119,9 @@ pub(crate) fn tell_unwritten<E: Sink>(err: &mut E)
     tell(err, &[b"output cannot be written\n"]);
 }
 
-/// Tells want of memory.
-pub(crate) fn tell_memory<E: Sink>(err: &mut E)
+/// Puts the line that tells want of memory, for a caller whose words could not be had; what the sink does with it
+/// changes nothing.
+pub fn tell_memory<E: Sink>(err: &mut E)
     ensures { ReceivedLine (record { before = E.seen err.old; now = E.seen err.new }) memory_line }
 {
     tell(err, &[b"out of memory\n"]);

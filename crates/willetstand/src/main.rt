@@ -1,44 +1,9 @@
-//! The command-line program: `translate` writes a route-map of an IOS source as a policy in RPL, and
-//! `judge` tells what a route-map makes of a route.
-//! From the outside in: `main`, `run` and its layers (run, request), the words (command, clap_command,
-//! word_forms), the lines on standard error (lines, place), the verbs (translate, judge, and what both
-//! stand on: checked, refusal), and how a translation is made (plan, sets, rpl_text, write).
-//! Its definitions are in `specs/`: `Headline`, `Complete`, `Exact` and `Ends` say what `run` does.
+//! The program: hands its words, the files of the system and the standard streams to `policy_program::run`,
+//! and ends with the status that this gives. Its stored run is a translation.
 #![tactic(auto)]
 
-mod checked;
-mod clap_command;
-mod command;
-mod judge;
-mod lines;
-mod place;
-mod plan;
-mod refusal;
-mod request;
-mod rpl_text;
-mod run;
-mod sets;
-mod status;
-mod translate;
-mod word_forms;
-mod word_laws;
-mod write;
-
-pub use command::{JudgeWords, Request, TranslateWords, WordsFault, read_words};
-pub use judge::judge;
-pub use lines::cause_name;
-pub use place::{Place, place_of};
-pub use refusal::Refusal;
-pub use run::run;
-pub use status::Status;
-pub use translate::translate;
-pub use word_laws::{refused_by_a_cause, words_ask_once};
-
-#[cfg(test)]
-mod tests;
-
 use policy_outside::{FileShelf, WriteSink};
-use std::alloc::Global;
+use policy_program::{Status, run, tell_memory};
 use std::process::ExitCode;
 use std::{env, io};
 
@@ -65,7 +30,7 @@ fn main(rt: HostRuntime) -> ExitCode {
         ),
         Err(ArgumentsFault::NoText) => run(rt.alloc(), &[], &mut shelf, &mut out, &mut err),
         Err(ArgumentsFault::Memory) => {
-            lines::tell_memory(&mut err);
+            tell_memory(&mut err);
             Status::Memory
         }
     };
