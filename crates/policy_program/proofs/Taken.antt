@@ -11,9 +11,8 @@ use Rattle.policy_text.specs.declared.fault.Cause.TheVariants.{UnknownForm, Unde
 use Rattle.ios_tree.specs.Sorts.{is_line, heads}
 use Rattle.ios_reader.specs.Entries.{Entry, onto_lines, lines_below, entry_from, entries_of}
 use Rattle.ios_reader.specs.Lines.{kind_of}
-use Rattle.ios_reader.specs.FirstForms.{is_first_line, is_first_form}
-use Rattle.ios_reader.specs.Profile.{is_inside, reached, open_header, open_lines, entry_causes, lists_missing, repeats_kind, cause_at, fault_at, first_fault_from, is_unknown, first_fault_within}
-use Rattle.ios_reader.specs.declared.forms.Forms.TheVariants.{First}
+use Rattle.policy_program.specs.FirstForms.{is_first_line, is_first_form}
+use Rattle.ios_reader.specs.Profile.{is_inside, reached, open_header, open_lines, entry_causes, lists_missing, repeats_kind, cause_at, fault_at, first_fault_from, has_no_form, is_unknown, first_fault_within}
 use Rattle.ios_tree.specs.declared.item.ItemSort.{ItemSort}
 use Rattle.ios_tree.specs.declared.item.ItemSort.TheVariants.{PrefixList, CommunityList, PathList, Map}
 use Rattle.ios_tree.specs.declared.item.ItemSort.TheVariants.{Line as LineSort}
@@ -35,7 +34,7 @@ AreFirst seen (l ∷ ls) = (is_first_line l ≡ true) × ((tests_prefix l && see
 
 -- no fault is there from here on
 abbrev pub Sound : List ℕ → List IosItem → List IosItem → List IosItem → Type 0
-Sound name all before is = first_fault_from (is_unknown First) name all before is ≡ None
+Sound name all before is = first_fault_from (is_unknown is_first_form) name all before is ≡ None
 
 -- ---- no fault at a place
 
@@ -48,8 +47,8 @@ none_first None s rest e = (refl, e)
 
 -- no fault here, and none behind
 pub sound_parts : (name : List ℕ) (all before : List IosItem) (i : IosItem) (is : List IosItem) → Sound name all before (i ∷ is)
-    → (fault_at (is_unknown First) name all before i ≡ None) × Sound name all (before ++ i ∷ []) is
-sound_parts name all before i is sound = none_first (fault_at (is_unknown First) name all before i) i.span (first_fault_from (is_unknown First) name all (before ++ i ∷ []) is) sound
+    → (fault_at (is_unknown is_first_form) name all before i ≡ None) × Sound name all (before ++ i ∷ []) is
+sound_parts name all before i is sound = none_first (fault_at (is_unknown is_first_form) name all before i) i.span (first_fault_from (is_unknown is_first_form) name all (before ++ i ∷ []) is) sound
 
 -- the cause of an item that is reached, or none
 abbrev if_reached : Bool → Option Cause → Option Cause
@@ -63,20 +62,20 @@ none_of_two : (a : Bool) (c : Cause) (o : Option Cause) → first_some (when a c
 none_of_two true c o e = absurd cc
 none_of_two false c o e = (refl, e)
 
-not_not : (b : Bool) → not b ≡ false → b ≡ true
-not_not true e = refl
-not_not false e = absurd cc
+taken_if_known : (taken none : Bool) → (not taken || none) ≡ false → taken ≡ true
+taken_if_known true none e = refl
+taken_if_known false none e = absurd cc
 
 -- a form that is reached is one of the first forms
-pub form_taken : (name : List ℕ) (all before : List IosItem) (i : IosItem) → reached name all before i ≡ true → fault_at (is_unknown First) name all before i ≡ None → is_first_form i.form ≡ true
+pub form_taken : (name : List ℕ) (all before : List IosItem) (i : IosItem) → reached name all before i ≡ true → fault_at (is_unknown is_first_form) name all before i ≡ None → is_first_form i.form ≡ true
 form_taken name all before i here none =
-    not_not (is_first_form i.form) (none_of_two (not (is_first_form i.form)) UnknownForm _ (cause_none (reached name all before i) (cause_at (is_unknown First) name all before i.form) here none)).0
+    taken_if_known (is_first_form i.form) (has_no_form i.form) (none_of_two (is_unknown is_first_form i.form) UnknownForm _ (cause_none (reached name all before i) (cause_at (is_unknown is_first_form) name all before i.form) here none)).0
 
 -- a line that is reached repeats none of its entry
-line_new : (name : List ℕ) (all before : List IosItem) (l : MapLine) (s : Span) → is_inside name false before ≡ true → fault_at (is_unknown First) name all before (record { form = Line l; span = s }) ≡ None → repeats_kind (open_lines [] before) l ≡ false
+line_new : (name : List ℕ) (all before : List IosItem) (l : MapLine) (s : Span) → is_inside name false before ≡ true → fault_at (is_unknown is_first_form) name all before (record { form = Line l; span = s }) ≡ None → repeats_kind (open_lines [] before) l ≡ false
 line_new name all before l s here none =
-    let cause = cause_none (is_inside name false before) (cause_at (is_unknown First) name all before (Line l)) here none in
-    let line = (none_of_two (not (is_first_line l)) UnknownForm _ cause).1 in
+    let cause = cause_none (is_inside name false before) (cause_at (is_unknown is_first_form) name all before (Line l)) here none in
+    let line = (none_of_two (is_unknown is_first_form (Line l)) UnknownForm _ cause).1 in
     let entry = entry_causes name all (open_header None before) l in
     (none_of_two (repeats_kind (open_lines [] before) l) SameKindTwice _ (none_of_two (lists_missing all l || entry.target) Undefined _ line).1).0
 
@@ -205,6 +204,6 @@ entries_first name all (i ∷ is) before sound =
     entry_first name all before is i.form i.span behind (entries_first name all is (before ++ i ∷ []) behind)
 
 -- the lines of each entry of a policy that is taken are of the first forms, with one match line at most
-pub taken_lines : (name : List ℕ) (all : List IosItem) → first_fault_within First name all ≡ None → AllByRecursion (λ e. AreFirst false e.lines) (entries_of name all)
+pub taken_lines : (name : List ℕ) (all : List IosItem) → first_fault_within is_first_form name all ≡ None → AllByRecursion (λ e. AreFirst false e.lines) (entries_of name all)
 unfolding first_fault_within
 taken_lines name all taken = entries_first name all all [] taken

@@ -14,7 +14,7 @@ use Rattle.ios_tree.specs.Sorts.{is_line, heads}
 use Rattle.ios_reader.specs.Entries.{Entry, onto_lines, lines_below, entry_from, entries_of}
 use Rattle.ios_reader.specs.Lines.{names_prefix_list}
 use Rattle.ios_reader.specs.Profile.{lines_of, fault_at, is_unknown, first_fault_within}
-use Rattle.ios_reader.specs.declared.forms.Forms.TheVariants.{First}
+use Rattle.policy_program.specs.FirstForms.{is_first_form}
 use Rattle.ios_tree.specs.declared.item.ItemSort.{ItemSort}
 use Rattle.ios_tree.specs.declared.item.ItemSort.TheVariants.{PrefixList, CommunityList, PathList, Map}
 use Rattle.ios_tree.specs.declared.item.ItemSort.TheVariants.{Line as LineSort}
@@ -45,7 +45,7 @@ family_is V4 V6 e = absurd cc
 family_is V6 V4 e = absurd cc
 
 entry_permits : (name : List ℕ) (all before : List IosItem) (family : Family) (list : List ℕ) (e : PrefixListEntry) (s : Span) → IsReached name all family list → is_of_list family list e ≡ true
-    → fault_at (is_unknown First) name all before (record { form = PrefixEntry e; span = s }) ≡ None → Permits e
+    → fault_at (is_unknown is_first_form) name all before (record { form = PrefixEntry e; span = s }) ≡ None → Permits e
 entry_permits name all before family list e s reached of none =
     let parts = and_parts (same_family family (family_of e)) (bytes_eq list e.list) of in
     let here : list_any (names_prefix_list (family_of e) e.list) (lines_of name false all) ≡ true =
@@ -57,7 +57,7 @@ of_list_permits e rest true here behind = (here refl, behind)
 of_list_permits e rest false here behind = behind
 
 form_permits : (name : List ℕ) (all before : List IosItem) (family : Family) (list : List ℕ) (form : IosForm) (s : Span) (rest : List PrefixListEntry) → IsReached name all family list
-    → fault_at (is_unknown First) name all before (record { form = form; span = s }) ≡ None → AllByRecursion Permits rest → AllByRecursion Permits (prefix_entry_from family list form rest)
+    → fault_at (is_unknown is_first_form) name all before (record { form = form; span = s }) ≡ None → AllByRecursion Permits rest → AllByRecursion Permits (prefix_entry_from family list form rest)
 form_permits name all before family list (PrefixEntry e) s rest reached none behind =
     of_list_permits e rest (is_of_list family list e) (λ of. entry_permits name all before family list e s reached of none) behind
 form_permits name all before family list (PrefixDescription d) s rest reached none behind = behind
@@ -74,7 +74,7 @@ items_permit name all family list (i ∷ is) before reached sound =
     form_permits name all before family list i.form i.span (prefix_entries family list is) reached parts.0 (items_permit name all family list is (before ++ i ∷ []) reached parts.1)
 
 -- the entries of a list that a policy names permit where the policy is taken
-pub entries_permit : (name : List ℕ) (all : List IosItem) (family : Family) (list : List ℕ) → first_fault_within First name all ≡ None → IsReached name all family list
+pub entries_permit : (name : List ℕ) (all : List IosItem) (family : Family) (list : List ℕ) → first_fault_within is_first_form name all ≡ None → IsReached name all family list
     → AllByRecursion (λ e. e.entry.permit ≡ true) (prefix_entries family list all)
 unfolding first_fault_within
 entries_permit name all family list taken reached = items_permit name all family list all [] reached taken

@@ -1,7 +1,6 @@
 // The laws of the words; their clauses are all that they do.
 ghost use Rattle.std.specs.Prelude.{◌≡◌, ℕ, List};
-ghost use Rattle.policy_program.specs.Causes.{UsageCause};
-ghost use Rattle.policy_program.specs.Command.{Request, Accepts, IsRefused};
+ghost use Rattle.policy_program.specs.Words.{Request, Accepts, IsRefused, UsageCause};
 
 /// Words make at most one request.
 #[tactic(auto, using(crate::proofs::Words::accepted_once))]

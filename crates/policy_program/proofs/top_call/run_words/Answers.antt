@@ -1,0 +1,14 @@
+-- the request that was read is accepted, and its answer is how the run ends
+use Rattle.std.proofs.Common.{map}
+use Rattle.std.specs.String.{string_bytes}
+use Rattle.policy_program.specs.Words.{request_view}
+use Rattle.policy_program.proofs.Endings.{ends_request}
+use Rattle.policy_program.proofs.top_call.run_words.Goals as goal
+
+pub returns-in-Ok : goal.returns-in-Ok
+returns-in-Ok g c =
+    ends_request (map string_bytes c.args.words.now) (request_view c.in-Ok.request)
+    (record { before = g.S.Shelf.seen c.args.shelf.now; now = g.S.Shelf.seen c.answer_request.new.shelf })
+    (record { before = g.O.Sink.seen c.args.out.now; now = g.O.Sink.seen c.answer_request.new.out })
+    (record { before = g.E.Sink.seen c.args.err.now; now = g.E.Sink.seen c.answer_request.new.err })
+    c.answer_request.result c.in-Ok.ensures.accepted c.answer_request.ensures
