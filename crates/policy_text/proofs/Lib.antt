@@ -1,3 +1,5 @@
 pub mod Phrases
 pub mod Lengths
+pub mod NameSets
+pub mod FirstFaults
 mod Examples

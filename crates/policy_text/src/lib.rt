@@ -4,10 +4,14 @@
 //! `proofs/Phrases`.
 #![tactic(auto)]
 
+mod causes;
 mod fault;
+mod name_sets;
 mod phrase;
 
+pub use causes::{Rules, first_cause};
 pub use fault::{Cause, CheckFault};
+pub use name_sets::{NameOf, NameSet, add_name, has_name, names_of};
 pub use phrase::{
     address_alone, after, bounds, copied, is, is_name, name_alone, number_alone, numbers, parts_at,
 };
