@@ -1,3 +1,4 @@
 pub mod Lexes
 pub mod Lines
 pub mod Walk
+pub mod JunosGiven

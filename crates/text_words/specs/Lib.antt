@@ -5,3 +5,6 @@ pub mod Lexes
 pub mod ByteWords
 pub mod IosCut
 pub mod Lines
+pub mod JunosWords
+pub mod JunosCut
+pub mod JunosWalk

@@ -100,7 +100,7 @@ fn starts_comment(word: &[u8]) -> bool
     }
 }
 
-fn end_of_words(end: u64, words: &[Word]) -> u64
+pub(crate) fn end_of_words(end: u64, words: &[Word]) -> u64
     ensures { result ≡ end_of end words.now }
 {
     let mut last = end;
