@@ -16,7 +16,9 @@ pub use phrase::{
     address_alone, after, bounds, copied, is, is_name, name_alone, number_alone, numbers, parts_at,
 };
 pub use route_types::{read_address, read_community, read_number, read_prefix};
-pub use text_words::{Ender, Span, Statement, Word, ios_statements};
+pub use text_words::{
+    BrokenKind, Ender, Span, Statement, TextFault, Word, ios_statements, junos_statements,
+};
 
 #[cfg(test)]
 mod tests;
