@@ -9,7 +9,7 @@ use Rattle.std.proofs.lemmas.List.Elements.{filter-append}
 use Rattle.std.proofs.lemmas.List.Folds.{list_any-append}
 use Rattle.std.proofs.lemmas.List.Sorted.{list_any-IsPermutation}
 use Rattle.route_types.specs.declared.community.Community.{Community}
-use Rattle.route_types.specs.Sets.{with_member_by, set_by, fits_one, set_after_by, IsAscendingBy}
+use Rattle.route_types.specs.Sets.{with_member_by, set_by, fits_some, set_after_by, IsAscendingBy}
 use Rattle.route_types.specs.Community.{RectParts, fits, number, with_member, set_of, set_after, IsAscending}
 
 -- the number tells communities apart
@@ -176,7 +176,7 @@ pub set_added : {C : Type 0} (number : C → ℕ) → Tells number → (cs more 
 set_added number tells cs more =
     ascending_same number tells (set_by number (cs ++ more)) (set_by number (set_by number cs ++ more)) (set_ascending number (cs ++ more)) (set_ascending number (set_by number cs ++ more))
     (λ q. any-set number tells q (cs ++ more) ∙ list_any-append q cs more ∙ ap (λ (b : Bool). b || list_any q more) (sym (any-set number tells q cs)) ∙ sym (list_any-append q (set_by number cs) more)
-      ∙ sym (any-set number tells q (set_by number cs ++ more)))
+    ∙ sym (any-set number tells q (set_by number cs ++ more)))
 
 below_by : {C : Type 0} (number : C → ℕ) (n : ℕ) (c : C) (cs : List C) (b : Bool) → n < number c → IsBelowFirst number n cs → IsBelowFirst number n (cond b (c ∷ cs) cs)
 below_by number n c cs true l h = l
@@ -211,6 +211,31 @@ set_kept number tells p cs =
     ascending_same number tells (set_by number (filter p cs)) (filter p (set_by number cs)) (set_ascending number (filter p cs)) (ascending_kept number p (set_by number cs) (set_ascending number cs))
     (λ q. any-set number tells q (filter p cs) ∙ any-kept p q cs ∙ sym (any-set number tells (λ c. p c && q c) cs) ∙ sym (any-kept p q (set_by number cs)))
 
+-- ---- two changes one after the other
+
+both_by : {C : Type 0} (q : C → Bool) (c : C) (both first : List C) (a b d : Bool) → d ≡ (a || b) → q c ≡ not b → both ≡ filter q first → cond (not d) (c ∷ both) both ≡ filter q (cond (not a) (c ∷ first) first)
+both_by {C} q c both first true b d e f more = ap (λ (x : Bool). cond (not x) (c ∷ both) both) e ∙ more
+both_by {C} q c both first false b d e f more =
+    ap (λ (x : Bool). cond (not x) (c ∷ both) both) e ∙ ap (λ (xs : List C). cond (not b) (c ∷ xs) xs) more ∙ ap (λ (x : Bool). cond x (c ∷ filter q first) (filter q first)) (sym f)
+
+-- what fits neither of two lists of rectangles
+fits_neither : {R C : Type 0} (fits : R → C → Bool) (rs qs : List R) (cs : List C) → filter (λ c. not (fits_some fits (rs ++ qs) c)) cs ≡ filter (λ c. not (fits_some fits qs c)) (filter (λ c. not (fits_some fits rs c)) cs)
+fits_neither fits rs qs [] = refl
+fits_neither fits rs qs (c ∷ cs) =
+    both_by (λ x. not (fits_some fits qs x)) c (filter (λ x. not (fits_some fits (rs ++ qs) x)) cs) (filter (λ x. not (fits_some fits rs x)) cs) (fits_some fits rs c) (fits_some fits qs c) (fits_some fits (rs ++ qs) c)
+    (list_any-append (λ r. fits r c) rs qs) refl (fits_neither fits rs qs cs)
+
+-- the change that acts as the first and then the second: the second also removes what the first adds
+pub changes_joined : {R C : Type 0} (number : C → ℕ) → Tells number → (fits : R → C → Bool) (rs qs : List R) (added more old : List C)
+    → set_after_by number fits (rs ++ qs) (filter (λ c. not (fits_some fits qs c)) added ++ more) old ≡ set_after_by number fits qs more (set_after_by number fits rs added old)
+changes_joined {R} {C} number tells fits rs qs added more old =
+    let q : C → Bool = λ c. not (fits_some fits qs c) in
+    let first : List C = filter (λ c. not (fits_some fits rs c)) old in
+    ap (λ (xs : List C). set_by number (xs ++ (filter q added ++ more))) (fits_neither fits rs qs old)
+    ∙ ap (λ (xs : List C). set_by number xs) (sym (append_assoc (filter q first) (filter q added) more) ∙ ap (λ (xs : List C). xs ++ more) (sym (filter-append q first added)))
+    ∙ set_added number tells (filter q (first ++ added)) more
+    ∙ ap (λ (xs : List C). set_by number (xs ++ more)) (set_kept number tells q (first ++ added))
+
 -- ---- communities of RFC 1997
 
 pub same_community : (c d : Community) → number c ≡ number d → c ≡ d
@@ -232,7 +257,7 @@ set_of_ascending cs = set_ascending number cs
 -- what a change leaves is in rising order and without repeats
 pub set_after_ascending : (removed : List RectParts) (added old set : List Community) → set ≡ set_after removed added old → IsAscending set
 set_after_ascending removed added old set e =
-    subst IsAscending (sym e) (set_ascending number (filter (λ c. not (fits_one fits removed c)) old ++ added))
+    subst IsAscending (sym e) (set_ascending number (filter (λ c. not (fits_some fits removed c)) old ++ added))
 
 -- what is the set of a list is in rising order and without repeats
 pub is_ascending_set : (list set : List Community) → set ≡ set_of list → IsAscending set

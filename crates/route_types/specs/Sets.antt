@@ -27,9 +27,9 @@ IsAscendingBy number (c ∷ []) = Unit {0}
 IsAscendingBy number (c ∷ d ∷ ds) = (number c < number d) × IsAscendingBy number (d ∷ ds)
 
 -- some rectangle is fitted
-abbrev pub fits_one : {R C : Type 0} → (R → C → Bool) → List R → C → Bool
-fits_one fits rects c = list_any (λ r. fits r c) rects
+abbrev pub fits_some : {R C : Type 0} → (R → C → Bool) → List R → C → Bool
+fits_some fits rects c = list_any (λ r. fits r c) rects
 
 -- (old without all that fit a removed rectangle) with added
 abbrev pub set_after_by : {R C : Type 0} → (C → ℕ) → (R → C → Bool) → List R → List C → List C → List C
-set_after_by number fits removed added old = set_by number (filter (λ c. not (fits_one fits removed c)) old ++ added)
+set_after_by number fits removed added old = set_by number (filter (λ c. not (fits_some fits removed c)) old ++ added)
