@@ -1,9 +1,8 @@
 -- What the cut of a Junos text gives: its statements, or its fault, and never both.
-use Rattle.std.proofs.Common.{◌≡◌, refl, ap, sym, subst, ◌∙◌, ℕ, ◌+◌, ◌-◌, ◌≤◌, length, get_or, take, drop, arith, List, [], ◌∷◌, ◌++◌, Option, Some, None, Result, Ok, Err, IfOk, IfErr}
+use Rattle.std.proofs.Common.{◌≡◌, ap, sym, subst, ◌∙◌, ℕ, ◌+◌, ◌-◌, ◌≤◌, length, get_or, take, drop, arith, List, [], ◌∷◌, ◌++◌, Some, Result, Ok, Err, IfOk, IfErr}
 use Rattle.std.proofs.lemmas.List.{take_all}
 use Rattle.text_words.specs.declared.fault.TextFault.{TextFault}
 use Rattle.text_words.specs.declared.fault.TextFault.TheVariants.{Broken, Memory}
-use Rattle.text_words.specs.declared.statement.Statement.{Statement}
 use Rattle.text_words.specs.declared.junos_groups.Groups.{Groups}
 use Rattle.text_words.specs.declared.junos_words.Within.{Within}
 use Rattle.text_words.specs.declared.statement.Word.{Word}

@@ -31,7 +31,7 @@ or_right true b none e = absurd cc
 or_right false b none e = e
 
 -- spaces are passed over
-skips : {R : Type 0} (s : Signs) (read : ℕ → List ℕ → R) (onto : Word → R → R) (Stops : List ℕ → Type 0) → Lexes s read onto Stops → (n p : ℕ) (rest : List ℕ) → read p (spaces n ++ rest) ≡ read (p + n) rest
+pub skips : {R : Type 0} (s : Signs) (read : ℕ → List ℕ → R) (onto : Word → R → R) (Stops : List ℕ → Type 0) → Lexes s read onto Stops → (n p : ℕ) (rest : List ℕ) → read p (spaces n ++ rest) ≡ read (p + n) rest
 skips s read onto Stops h zero p rest = ap (λ (q : ℕ). read q rest) (sym (add-zero p))
 skips s read onto Stops h (suc n) p rest =
     let place : p + 1 + n ≡ p + suc n = omega arith in

@@ -2,3 +2,6 @@ pub mod Lexes
 pub mod Lines
 pub mod Walk
 pub mod JunosGiven
+pub mod JunosWords
+pub mod JunosLaw
+mod JunosExamples

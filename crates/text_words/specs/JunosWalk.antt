@@ -1,6 +1,6 @@
 -- What the cut of a Junos text owes from one byte to the next: the statements so far and what is still to
 -- come are the text's outcome.
-use Rattle.std.specs.Prelude.{◌≡◌, List, [], ◌∷◌, ◌++◌, Result, Ok, Err}
+use Rattle.std.specs.Prelude.{◌≡◌, List, ◌++◌, Result, Ok, Err}
 use Rattle.text_words.specs.declared.fault.TextFault.{TextFault}
 use Rattle.text_words.specs.declared.junos_groups.Groups.{Groups}
 use Rattle.text_words.specs.JunosWords.{Token}

@@ -27,41 +27,18 @@ is_gap c behind = is_blank c || (c == 10) || is_dropped c behind
 abbrev pub slash_sort : List ℕ → Sort
 slash_sort behind = elim (starts_with_byte 42 behind) [ true ↦ Comment | false ↦ Plain ]
 
--- what a byte is outside quotes and comments, before the bytes behind it
-abbrev pub sort_of_byte : ℕ → List ℕ → Sort
-sort_of_byte c behind =
-    elim (c == 34) [
-      | true ↦ Quote
-      | false ↦
-          elim (c == 35) [
-            | true ↦ LineComment
-            | false ↦
-                elim (c == 91) [
-                  | true ↦ Bracket
-                  | false ↦
-                      elim (c == 93) [
-                        | true ↦ Bracket
-                        | false ↦
-                            elim (c == 59) [
-                              | true ↦ Ends Semi
-                              | false ↦
-                                  elim (c == 123) [
-                                    | true ↦ Ends Open
-                                    | false ↦
-                                        elim (c == 125) [
-                                          | true ↦ Ends Close
-                                          | false ↦
-                                              elim (c == 47) [ true ↦ slash_sort behind | false ↦ Plain ]
-                                        ]
-                                  ]
-                            ]
-                      ]
-                ]
-          ]
-    ]
+-- the bytes of a sort of their own, where a slash is of this sort
+abbrev pub sorts : Sort → List (ℕ × Sort)
+sorts slash = (34, Quote) ∷ (35, LineComment) ∷ (91, Bracket) ∷ (93, Bracket) ∷ (59, Ends Semi) ∷ (123, Ends Open) ∷ (125, Ends Close) ∷ (47, slash) ∷ []
 
+-- the sort of a byte by these rows; any other byte is one of a word
+abbrev pub sort_in : List (ℕ × Sort) → ℕ → Sort
+sort_in [] c = Plain
+sort_in (row ∷ rows) c = elim (c == row.0) [ true ↦ row.1 | false ↦ sort_in rows c ]
+
+-- what a byte is outside quotes and comments, before the bytes behind it
 unfoldable pub sort_at : ℕ → List ℕ → Sort
-sort_at c behind = elim (is_gap c behind) [ true ↦ Gap | false ↦ sort_of_byte c behind ]
+sort_at c behind = elim (is_gap c behind) [ true ↦ Gap | false ↦ sort_in (sorts (slash_sort behind)) c ]
 
 -- a word, what ends a statement with its place, or a quote or comment that the text's end leaves open
 pub data Token : Type 0 where

@@ -8,3 +8,4 @@ pub mod Lines
 pub mod JunosWords
 pub mod JunosCut
 pub mod JunosWalk
+pub mod JunosWritten
