@@ -1,4 +1,6 @@
 pub mod Phrases
+pub mod Agree
+pub mod Values
 pub mod Lengths
 pub mod NameSets
 pub mod FirstFaults
