@@ -1,12 +1,12 @@
 -- The phrases of forms agree with what they spell, where their parts do.
-use Rattle.std.proofs.Common.{◌≡◌, refl, sym, ap, ◌∙◌, subst, ℕ, ◌≤◌, Bool, true, false, List, [], ◌∷◌, ◌++◌, length, Option, Some, None, arith, inl, inr, ◌⊎◌}
-use Rattle.std.specs.Prelude.{bytes_eq, option_map, not, ◌&&◌}
+use Rattle.std.proofs.Common.{◌≡◌, refl, sym, ap, ◌∙◌, subst, ℕ, Bool, true, false, List, [], ◌∷◌, Option, Some, None, arith, inl, inr}
+use Rattle.std.specs.Prelude.{bytes_eq, option_map, not}
 use Rattle.std.specs.List.{list_all}
 use Rattle.std.proofs.lemmas.Bool.{and_parts, not-true}
 use Rattle.std.proofs.lemmas.Slice.Eq.{bytes_eq-Decides}
 use Rattle.route_types.specs.Words.{◌>>=◌}
 use Rattle.route_types.proofs.Numbers.{some_is, bind_found}
-use Rattle.policy_text.specs.Phrases.{Agrees, Behind, One, First, Optional, AreSome, IsOneOf, after, behind, only, value_at, first_of, optional_at, optional, some_each, one_of, are_apart}
+use Rattle.policy_text.specs.Phrases.{Agrees, Behind, One, First, Optional, AreSome, IsOneOf, after, behind, only, value_at, first_of, optional, some_each, one_of, are_apart}
 use Rattle.policy_text.proofs.Phrases.{same_bytes, after_found, after_spelled, each_found, each_spelled, map_found}
 
 -- ---- one word, some words, words behind others

@@ -27,9 +27,9 @@ pub address_agrees : Agrees address_in IsAddress
 address_agrees = record {
   found = address_in_found;
   only = λ w a h.
-  ap (λ (x : List ℕ). address_in x) h.spelled
-  ∙ address_in_spelled h.octets (record { first = h.first; second = h.second; third = h.third; fourth = h.fourth })
-  ∙ ap (λ (b : Address). Some b) (sym h.value);
+      ap (λ (x : List ℕ). address_in x) h.spelled
+      ∙ address_in_spelled h.octets (record { first = h.first; second = h.second; third = h.third; fourth = h.fourth })
+      ∙ ap (λ (b : Address). Some b) (sym h.value);
 }
 
 prefix_only : (w : List ℕ) (p : PrefixParts) → IsPrefix w p → prefix_in w ≡ Some p
@@ -47,6 +47,6 @@ pub community_agrees : Agrees community_in IsCommunity
 community_agrees = record {
   found = community_in_found;
   only = λ w c h.
-  ap (λ (x : List ℕ). community_in x) h.spelled ∙ community_in_spelled h.high h.low h.high_within h.low_within
-  ∙ ap (λ (d : Community). Some d) (sym h.value);
+      ap (λ (x : List ℕ). community_in x) h.spelled ∙ community_in_spelled h.high h.low h.high_within h.low_within
+      ∙ ap (λ (d : Community). Some d) (sym h.value);
 }
