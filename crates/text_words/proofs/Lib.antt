@@ -5,3 +5,5 @@ pub mod JunosGiven
 pub mod JunosWords
 pub mod JunosLaw
 mod JunosExamples
+pub mod RplReach
+mod RplExamples

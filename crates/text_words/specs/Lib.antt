@@ -9,3 +9,7 @@ pub mod JunosWords
 pub mod JunosCut
 pub mod JunosWalk
 pub mod JunosWritten
+pub mod RplWords
+pub mod RplCut
+pub mod RplReach
+pub mod RplText

@@ -163,7 +163,7 @@ fn word_end(text: &[u8]) -> Option<usize>
     text.iter().position(|c| is_blank(*c))
 }
 
-fn is_blank(byte: u8) -> bool
+pub(crate) fn is_blank(byte: u8) -> bool
     ensures { result ≡ is_blank byte }
 {
     byte == b' ' || byte == b'\t'

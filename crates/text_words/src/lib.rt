@@ -12,6 +12,9 @@ mod memory;
 mod push;
 mod row;
 mod stack;
+mod rpl_blocks;
+mod rpl_cut;
+mod rpl_words;
 mod statement;
 
 pub use fault::{BrokenKind, TextFault};
@@ -21,4 +24,6 @@ pub use memory::Memory;
 pub use push::push_words;
 pub use row::Row;
 pub use stack::Stack;
+pub use rpl_blocks::BlockKind;
+pub use rpl_cut::rpl_statements;
 pub use statement::{Ender, Span, Statement, Word};
