@@ -12,7 +12,7 @@ word_onto : (quote : ℕ) (text : List ℕ) (quoted : Bool) (more rest : List �
 word_onto quote text true more rest = ap (λ (cs : List ℕ). quote ∷ cs) (append_assoc text (quote ∷ more) rest)
 word_onto quote text false more rest = append_assoc text more rest
 
-piece_onto : (quote gap : ℕ) (text : List ℕ) (quoted : Bool) (more rest : List ℕ) → (spaces gap ++ word_then quote text quoted more) ++ rest ≡ spaces gap ++ word_then quote text quoted (more ++ rest)
+pub piece_onto : (quote gap : ℕ) (text : List ℕ) (quoted : Bool) (more rest : List ℕ) → (spaces gap ++ word_then quote text quoted more) ++ rest ≡ spaces gap ++ word_then quote text quoted (more ++ rest)
 piece_onto quote gap text quoted more rest = append_assoc (spaces gap) (word_then quote text quoted more) rest ∙ ap (λ (cs : List ℕ). spaces gap ++ cs) (word_onto quote text quoted more rest)
 
 spaces_length : (n : ℕ) → length (spaces n) ≡ n

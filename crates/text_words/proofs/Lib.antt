@@ -6,4 +6,6 @@ pub mod JunosWords
 pub mod JunosLaw
 mod JunosExamples
 pub mod RplReach
+pub mod RplLexes
+pub mod RplWritten
 mod RplExamples

@@ -1,8 +1,8 @@
 -- The reader of RPL words keeps to its signs, and so reads the words that are written.
-use Rattle.std.proofs.Common.{◌≡◌, refl, sym, ap, ap₂, subst, ◌∙◌, ℕ, ◌+◌, Bool, true, false, ◌&&◌, ◌||◌, not, List, [], ◌∷◌, ◌++◌, length, append_assoc, append-nil, arith}
+use Rattle.std.proofs.Common.{◌≡◌, refl, sym, ap, ap₂, subst, ◌∙◌, ℕ, ◌+◌, Bool, true, false, ◌||◌, not, List, [], ◌∷◌, ◌++◌, length, append_assoc, append-nil, arith}
 use Rattle.std.specs.Prelude.{◌==◌}
-use Rattle.std.specs.List.{list_any, list_all}
-use Rattle.std.proofs.lemmas.Bool.{ne_eqb, and_parts, or_parts, or_from}
+use Rattle.std.specs.List.{list_all}
+use Rattle.std.proofs.lemmas.Bool.{ne_eqb, and_parts, or_parts}
 use Rattle.text_words.specs.declared.rpl_words.Begun.{Begun}
 use Rattle.text_words.specs.declared.rpl_words.Standing.TheVariants.{Behind, Within, Quoted}
 use Rattle.text_words.specs.declared.rpl_words.ByteSort.{ByteSort}
@@ -11,7 +11,7 @@ use Rattle.text_words.specs.declared.statement.Word.{Word}
 use Rattle.text_words.specs.Pieces.{word_at}
 use Rattle.text_words.specs.Lexes.{Lexes}
 use Rattle.text_words.specs.RplWords.{Lexeme, IsWord, is_single, has_quote, sort_at, word_to, past, given, lexemes}
-use Rattle.text_words.specs.RplText.{breaks, is_letter, is_quotable, is_plain, rpl_signs}
+use Rattle.text_words.specs.RplText.{is_letter, is_quotable, is_plain, rpl_signs}
 
 -- two bytes that a test tells apart
 pub apart : (P : ℕ → Bool) (b c : ℕ) (t : Bool) → P b ≡ not t → P c ≡ t → (c == b) ≡ false
@@ -24,17 +24,17 @@ not_true false h = refl
 
 -- ---- what the bytes are
 
-letter_sort : (c : ℕ) (behind : List ℕ) → is_letter c ≡ true → sort_at c behind ≡ Ordinary
+pub letter_sort : (c : ℕ) (behind : List ℕ) → is_letter c ≡ true → sort_at c behind ≡ Ordinary
 unfolding sort_at
 letter_sort c behind h =
     let apart_from : (b : ℕ) → is_letter b ≡ false → (c == b) ≡ false = λ b e. apart is_letter b c true e h in
-    rw (apart_from 10 refl, apart_from 32 refl, apart_from 9 refl, apart_from 13 refl, apart_from 40 refl, apart_from 41 refl, apart_from 44 refl, apart_from 39 refl) refl
+    rw (apart_from 10 refl, apart_from 32 refl, apart_from 9 refl, apart_from 13 refl, apart_from 40 refl, apart_from 41 refl, apart_from 44 refl, apart_from 39 refl, sort_at) refl
 
-mark_sort : (c : ℕ) (behind : List ℕ) → is_single c ≡ true → sort_at c behind ≡ Single
+pub mark_sort : (c : ℕ) (behind : List ℕ) → is_single c ≡ true → sort_at c behind ≡ Single
 unfolding sort_at
 mark_sort c behind h =
     let apart_from : (b : ℕ) → is_single b ≡ false → (c == b) ≡ false = λ b e. apart is_single b c true e h in
-    rw (apart_from 10 refl, apart_from 32 refl, apart_from 9 refl, apart_from 13 refl, h) refl
+    rw (apart_from 10 refl, apart_from 32 refl, apart_from 9 refl, apart_from 13 refl, h, sort_at) refl
 
 quote_follows : (text rest : List ℕ) → list_all is_quotable text ≡ true → has_quote (text ++ (39 ∷ rest)) ≡ true
 unfolding has_quote
@@ -44,9 +44,9 @@ quote_follows (c ∷ cs) rest h =
     let r = or_parts (c == 39) (c == 10) (not_true ((c == 39) || (c == 10)) q.0) in
     rw (r.0, r.1) (quote_follows cs rest q.1)
 
-quote_sort : (text rest : List ℕ) → list_all is_quotable text ≡ true → sort_at 39 (text ++ (39 ∷ rest)) ≡ Quote
+pub quote_sort : (text rest : List ℕ) → list_all is_quotable text ≡ true → sort_at 39 (text ++ (39 ∷ rest)) ≡ Quote
 unfolding sort_at
-quote_sort text rest h = rw (quote_follows text rest h) refl
+quote_sort text rest h = rw (quote_follows text rest h, sort_at) refl
 
 -- ---- the words
 

@@ -72,14 +72,13 @@ said ender depth (w ∷ ws) = record { words = w ∷ ws; ender = ender; depth = 
 
 -- an element of a set; one without words stands where a comma is beside it, with the span of that
 abbrev pub element : Ender → Option Span → List Word → List Statement
+element ender beside (w ∷ ws) = said ender 1 (w ∷ ws)
 element ender None [] = []
 element ender (Some comma) [] = record { words = []; ender = ender; depth = 1; span = comma } ∷ []
-element ender beside (w ∷ ws) = said ender 1 (w ∷ ws)
 
--- whether a condition goes on behind a word
+-- whether a condition goes on behind a word: behind each but `then` where one has begun, else behind `if` and `elseif`
 abbrev pub in_condition : Bool → Word → Bool
-in_condition true w = not (is_word (codes "then") w)
-in_condition false w = is_one_of (codes "if" ∷ codes "elseif" ∷ []) w
+in_condition condition w = (condition && not (is_word (codes "then") w)) || (not condition && is_one_of (codes "if" ∷ codes "elseif" ∷ []) w)
 
 -- a statement of a policy starts with this word
 abbrev pub starts_with : Bool → Word → Bool

@@ -1,11 +1,11 @@
 -- RPL texts that are written, a line a statement: what may be written, its text, and its statements.
 use Rattle.std.specs.Prelude.{◌≡◌, ℕ, ◌+◌, Bool, true, false, ◌&&◌, ◌||◌, not, ◌==◌, List, [], ◌∷◌, ◌++◌, length, codes}
 use Rattle.std.specs.List.{list_any, list_all}
-use Rattle.text_words.specs.Text.{is_blank, starts_with_byte}
+use Rattle.text_words.specs.Text.{starts_with_byte}
 use Rattle.text_words.specs.Pieces.{Piece, pieces_text, placed, word_at}
 use Rattle.text_words.specs.Signs.{Signs, are_words}
-use Rattle.text_words.specs.RplWords.{is_single, is_remark}
-use Rattle.text_words.specs.RplCut.{is_word, is_one_of, opening, said, in_condition, starts_with, ends_with}
+use Rattle.text_words.specs.RplWords.{is_single}
+use Rattle.text_words.specs.RplCut.{is_word, opening, said, in_condition, starts_with, ends_with}
 use Rattle.text_words.specs.declared.statement.Word.{Word}
 use Rattle.text_words.specs.declared.statement.Ender.{Ender}
 use Rattle.text_words.specs.declared.statement.Ender.TheVariants.{Line, Comma, Plain}
@@ -47,12 +47,16 @@ pub data RplLine : Type 0 where
 abbrev pub bare : List ℕ → Piece
 bare text = record { gap = 0; text = text; quoted = false }
 
+-- what stands behind an element, a comma or nothing
+abbrev pub mark_behind : Bool → List Piece
+mark_behind true = bare (codes ",") ∷ []
+mark_behind false = []
+
 -- the words of a line
 abbrev pub line_words : RplLine → List Piece
 line_words Remark = []
 line_words (Header kind xs) = bare (opening kind) ∷ xs
-line_words (Element true xs) = xs ++ bare (codes ",") ∷ []
-line_words (Element false xs) = xs
+line_words (Element comma xs) = xs ++ mark_behind comma
 line_words (Step xs) = xs
 line_words EndSet = bare (codes "end-set") ∷ []
 line_words EndPolicy = bare (codes "end-policy") ∷ []

@@ -116,7 +116,8 @@ fn starts_with(condition: bool, word: &Word) -> bool
     }
     is_one_of(
         &[
-            b"if", b"elseif", b"else", b"endif", b"pass", b"done", b"drop", b"set", b"delete", b"prepend", b"apply",
+            b"if", b"elseif", b"else", b"endif", b"pass", b"done", b"drop", b"set", b"delete",
+            b"prepend", b"apply",
         ],
         word,
     )
@@ -152,7 +153,12 @@ impl Cutting {
     }
 
     /// Ends an element of a set, which may have no words where it is beside a comma.
-    fn say_element(&mut self, alloc: Global, ender: Ender, beside: Option<Span>) -> Result<(), Memory>
+    fn say_element(
+        &mut self,
+        alloc: Global,
+        ender: Ender,
+        beside: Option<Span>,
+    ) -> Result<(), Memory>
         ensures { IfOk result (λ _. self.new ≡ record { statements = self.old.statements ++ element ender beside self.old.words; place = self.old.place; words = [] }) }
     {
         if !self.words.is_empty() {
@@ -199,7 +205,12 @@ impl Cutting {
     }
 
     /// Takes a word of a statement of a policy.
-    fn take_in_statement(&mut self, alloc: Global, condition: bool, word: Word) -> Result<(), Memory>
+    fn take_in_statement(
+        &mut self,
+        alloc: Global,
+        condition: bool,
+        word: Word,
+    ) -> Result<(), Memory>
         ensures { IfOk result (λ _. self.new ≡ after self.old (in_statement condition [] self.old.words word)) }
     {
         let ends = ends_with(condition, &word);

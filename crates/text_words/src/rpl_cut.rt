@@ -4,7 +4,7 @@ ghost use Rattle.text_words.specs.RplCut.{rpl_cut};
 use crate::memory::Memory;
 use crate::row::Row;
 use crate::rpl_blocks::{Cutting, Place};
-use crate::rpl_words::{end_text, read_byte, Standing};
+use crate::rpl_words::{Standing, end_text, read_byte};
 use crate::statement::Statement;
 use std::alloc::Global;
 

@@ -279,13 +279,34 @@ pub(crate) fn read_byte(
             if is_remark(byte) {
                 return Ok(Standing::Remark);
             }
-            read_plain(alloc, cut, Standing::Margin, place, byte, sort_at(byte, behind))
+            read_plain(
+                alloc,
+                cut,
+                Standing::Margin,
+                place,
+                byte,
+                sort_at(byte, behind),
+            )
         }
         Standing::Behind => {
-            read_plain(alloc, cut, Standing::Behind, place, byte, sort_at(byte, behind))
+            read_plain(
+                alloc,
+                cut,
+                Standing::Behind,
+                place,
+                byte,
+                sort_at(byte, behind),
+            )
         }
         Standing::Within(begun) => {
-            read_plain(alloc, cut, Standing::Within(begun), place, byte, sort_at(byte, behind))
+            read_plain(
+                alloc,
+                cut,
+                Standing::Within(begun),
+                place,
+                byte,
+                sort_at(byte, behind),
+            )
         }
     }
 }
