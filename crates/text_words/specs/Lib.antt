@@ -13,3 +13,4 @@ pub mod RplWords
 pub mod RplCut
 pub mod RplReach
 pub mod RplText
+pub mod Rising
