@@ -1,5 +1,5 @@
 ghost use Rattle.std.specs.Prelude.{◌≡◌};
-ghost use Rattle.text_words.specs.Text.{is_blank, starts_with_byte};
+ghost use Rattle.text_words.specs.Text.{starts_with_byte};
 ghost use Rattle.text_words.specs.JunosWords.{is_dropped, is_gap, is_plain, slash_sort, sort_at};
 
 /// What ends a statement: `;`, `{` or `}`.

@@ -1,7 +1,7 @@
-ghost use Rattle.std.specs.Prelude.{◌≡◌, ℕ, ◌+◌, ◌<◌, ◌^◌, [], ◌∷◌, ◌++◌, length, true, false, Some, None, IfOk, IfErr, MatchResult};
-ghost use Rattle.text_words.specs.JunosWords.{Token, IsWord, Ender as EnderToken, Unclosed, begun, word_up_to, outside_step, word_step, quote_step, comment_step, star_step, line_step, step_at, end_tokens, tokens_at};
+ghost use Rattle.std.specs.Prelude.{◌≡◌, ◌+◌, ◌<◌, ◌^◌, Some, IfOk, IfErr};
+ghost use Rattle.text_words.specs.JunosWords.{outside_step, word_step, quote_step, comment_step, star_step, line_step, step_at, end_tokens};
 ghost use Rattle.text_words.specs.JunosCut.{cut_or_fault, junos_cut, junos_fault, IsFault, HasOne, Gives};
-ghost use Rattle.text_words.specs.JunosWalk.{outcome_behind, Took, Takes};
+ghost use Rattle.text_words.specs.JunosWalk.{outcome_behind, Takes};
 
 use crate::fault::{BrokenKind, TextFault};
 use crate::junos_bytes::{Sort, is_dropped, sort_at};

@@ -1,7 +1,6 @@
-ghost use Rattle.std.specs.Prelude.{◌≡◌, ℕ, ◌+◌, ◌<◌, ◌^◌, [], ◌∷◌, ◌++◌, length, IfOk};
-ghost use Rattle.text_words.specs.IosCut.{end_of};
-ghost use Rattle.text_words.specs.JunosWords.{Token, IsWord, Ender as EnderToken};
-ghost use Rattle.text_words.specs.JunosCut.{Gives, span_of_words, statement_of, at_text_end};
+ghost use Rattle.std.specs.Prelude.{◌≡◌, ◌+◌, ◌<◌, ◌^◌, [], ◌∷◌, ◌++◌, length, IfOk};
+ghost use Rattle.text_words.specs.JunosWords.{IsWord, Ender as EnderToken};
+ghost use Rattle.text_words.specs.JunosCut.{Gives, span_of_words, statement_of};
 ghost use Rattle.text_words.specs.JunosWalk.{outcome_behind, Took, Takes};
 
 use crate::fault::{BrokenKind, TextFault};
