@@ -1,26 +1,18 @@
 -- A policy with no fault for a caller who takes fewer forms has none at all.
-use Rattle.std.proofs.Common.{◌≡◌, refl, Bool, true, false, List, [], ◌∷◌, ◌++◌, ℕ, Option, Some, None}
+use Rattle.std.proofs.Common.{◌≡◌, refl, Bool, true, false, not, List, [], ◌∷◌, ◌++◌, ℕ, Option, Some, None}
 use Rattle.route_types.specs.Words.{when}
 use Rattle.policy_text.specs.Names.{first_some}
 use Rattle.text_words.specs.declared.statement.Span.{Span}
 use Rattle.policy_text.specs.declared.fault.Cause.{Cause}
 use Rattle.policy_text.specs.declared.fault.Cause.TheVariants.{UnknownForm}
-use Rattle.ios_reader.specs.Profile.{has_no_form, is_unknown, reached, fault_at, first_fault_from, first_fault_within, is_defined, InProfile}
+use Rattle.ios_reader.specs.Profile.{all_forms, has_no_form, is_unknown, reached, fault_at, first_fault_from, first_fault_within, is_defined, InProfile}
 use Rattle.ios_tree.specs.declared.item.IosForm.{IosForm}
-use Rattle.ios_tree.specs.declared.item.IosForm.TheVariants.{PrefixEntry, PrefixDescription, CommunityEntry, PathEntry, MapHeader, Line, Other}
 use Rattle.ios_tree.specs.declared.item.IosItem.{IosItem}
-use Rattle.ios_reader.specs.declared.forms.Forms.{Forms}
-use Rattle.ios_reader.specs.declared.forms.Forms.TheVariants.{All, First}
+use Rattle.ios_reader.proofs.Booleans.{or_true}
 
--- a statement of no form is none of the forms that are taken
-unknown_first : (form : IosForm) → has_no_form form ≡ true → is_unknown First form ≡ true
-unknown_first (PrefixEntry e) h = absurd cc
-unknown_first (PrefixDescription d) h = absurd cc
-unknown_first (CommunityEntry e) h = absurd cc
-unknown_first (PathEntry e) h = absurd cc
-unknown_first (MapHeader m) h = absurd cc
-unknown_first (Line l) h = absurd cc
-unknown_first (Other o) h = refl
+-- a statement of no form is unknown to any caller
+unknown_more : (takes : IosForm → Bool) (form : IosForm) → has_no_form form ≡ true → is_unknown takes form ≡ true
+unknown_more takes form h = rw h (or_true (not (takes form)))
 
 -- a fault by whether the item is reached, whether its form is unknown, and the other causes
 abbrev fault_by : Bool → Bool → Option Cause → Option Cause
@@ -41,15 +33,14 @@ none_first (Some cause) g s rest more here behind e = absurd cc
 none_first None (Some cause) s rest more here behind e = absurd cc (here refl)
 none_first None None s rest more here behind e = behind e
 
-fewer_from : (name : List ℕ) (all before is : List IosItem) → first_fault_from (is_unknown First) name all before is ≡ None → first_fault_from (is_unknown All) name all before is ≡ None
-fewer_from name all before [] e = refl
-fewer_from name all before (i ∷ is) e =
-    none_first (fault_at (is_unknown First) name all before i) (fault_at (is_unknown All) name all before i) i.span (first_fault_from (is_unknown First) name all (before ++ i ∷ []) is) (first_fault_from (is_unknown All) name all (before ++ i ∷ []) is)
-    (fewer_here (reached name all before i) (is_unknown First i.form) (has_no_form i.form) _ (unknown_first i.form))
-    (fewer_from name all (before ++ i ∷ []) is) e
+fewer_from : (takes : IosForm → Bool) (name : List ℕ) (all before is : List IosItem) → first_fault_from (is_unknown takes) name all before is ≡ None → first_fault_from (is_unknown all_forms) name all before is ≡ None
+fewer_from takes name all before [] e = refl
+fewer_from takes name all before (i ∷ is) e =
+    none_first (fault_at (is_unknown takes) name all before i) (fault_at (is_unknown all_forms) name all before i) i.span (first_fault_from (is_unknown takes) name all (before ++ i ∷ []) is) (first_fault_from (is_unknown all_forms) name all (before ++ i ∷ []) is)
+    (fewer_here (reached name all before i) (is_unknown takes i.form) (has_no_form i.form) _ (unknown_more takes i.form))
+    (fewer_from takes name all (before ++ i ∷ []) is) e
 
 -- a policy that is defined and has no fault among the forms that are taken is in profile
-pub is_in_profile : (taken : Forms) (name : List ℕ) (all : List IosItem) → is_defined name all ≡ true → first_fault_within taken name all ≡ None → InProfile name all
+pub is_in_profile : (takes : IosForm → Bool) (name : List ℕ) (all : List IosItem) → is_defined name all ≡ true → first_fault_within takes name all ≡ None → InProfile name all
 unfolding first_fault_within
-is_in_profile All name all defined sound = record { defined = defined; sound = sound }
-is_in_profile First name all defined sound = record { defined = defined; sound = fewer_from name all [] all sound }
+is_in_profile takes name all defined sound = record { defined = defined; sound = fewer_from takes name all [] all sound }

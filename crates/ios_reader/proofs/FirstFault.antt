@@ -9,7 +9,6 @@ use Rattle.ios_reader.specs.Profile.{is_prefix_entry, is_map_header, is_communit
 use Rattle.ios_tree.specs.declared.item.IosForm.{IosForm}
 use Rattle.ios_tree.specs.declared.item.IosForm.TheVariants.{PrefixEntry, PrefixDescription, CommunityEntry, PathEntry, MapHeader, Line, Other}
 use Rattle.ios_tree.specs.declared.item.IosItem.{IosItem}
-use Rattle.ios_reader.specs.declared.forms.Forms.{Forms}
 use Rattle.ios_reader.specs.Facts.{Facts, facts_of}
 use Rattle.ios_reader.specs.Known.{Knows}
 use Rattle.ios_reader.specs.Given.{second_sort_given, repeats_given, fault_given}
@@ -65,7 +64,7 @@ repeats_is name before k (MapHeader h) behind = behind.headers_are h.map h.numbe
 repeats_is name before k (Line l) behind = refl
 repeats_is name before k (Other o) behind = refl
 
-fault_is : (taken : Forms) (name : List ℕ) (all before : List IosItem) (facts : Facts) (k : Kept) (second repeated : Bool) (i : IosItem) → Knows name all facts → IsKept name before k → second ≡ second_sort_given k.sorts i.form → repeated ≡ repeats_given k.entries k.headers i.form → fault_given taken name facts k.place.inside k.place.head (has_kind k.place.kinds) second repeated i.form ≡ fault_at (is_unknown taken) name all before i
+fault_is : (taken : IosForm → Bool) (name : List ℕ) (all before : List IosItem) (facts : Facts) (k : Kept) (second repeated : Bool) (i : IosItem) → Knows name all facts → IsKept name before k → second ≡ second_sort_given k.sorts i.form → repeated ≡ repeats_given k.entries k.headers i.form → fault_given taken name facts k.place.inside k.place.head (has_kind k.place.kinds) second repeated i.form ≡ fault_at (is_unknown taken) name all before i
 fault_is taken name all before facts k second repeated i known behind second-is repeated-is =
     let facts-are : facts ≡ facts_of name all = facts_are name all facts known in
     let sort : second ≡ is_second_sort before i.form = second-is ∙ second_is name before k i.form behind in
@@ -75,7 +74,7 @@ fault_is taken name all before facts k second repeated i known behind second-is 
 -- ---- the steps of the walk
 
 -- an item without a fault is passed
-pub passes : (taken : Forms) (name : List ℕ) (all rest : List IosItem) (item : IosItem) (m : ℕ) (facts : Facts) (place : Place) (entries more_entries : Family → List ℕ → ℕ → Bool) (headers more_headers : List ℕ → ℕ → Bool) (sorts more_sorts : List ℕ → Bool → Bool) (second repeated : Bool) → 1 ≤ length rest → item ≡ get_or rest 0 item → m ≡ length rest - 1 → Knows name all facts → second ≡ second_sort_given sorts item.form → repeated ≡ repeats_given entries headers item.form → ((f : Family) (q : List ℕ) (n : ℕ) → more_entries f q n ≡ (entries f q n || is_prefix_entry f q n item.form)) → ((q : List ℕ) (n : ℕ) → more_headers q n ≡ (headers q n || is_map_header q n item.form)) → ((q : List ℕ) (x : Bool) → more_sorts q x ≡ (sorts q x || is_community_entry q x item.form)) → fault_given taken name facts place.inside place.head (has_kind place.kinds) second repeated item.form ≡ None → IsWalking taken name all rest place entries headers sorts → IsWalking taken name all (take m (drop 1 rest)) (place_behind name place item.form) more_entries more_headers more_sorts
+pub passes : (taken : IosForm → Bool) (name : List ℕ) (all rest : List IosItem) (item : IosItem) (m : ℕ) (facts : Facts) (place : Place) (entries more_entries : Family → List ℕ → ℕ → Bool) (headers more_headers : List ℕ → ℕ → Bool) (sorts more_sorts : List ℕ → Bool → Bool) (second repeated : Bool) → 1 ≤ length rest → item ≡ get_or rest 0 item → m ≡ length rest - 1 → Knows name all facts → second ≡ second_sort_given sorts item.form → repeated ≡ repeats_given entries headers item.form → ((f : Family) (q : List ℕ) (n : ℕ) → more_entries f q n ≡ (entries f q n || is_prefix_entry f q n item.form)) → ((q : List ℕ) (n : ℕ) → more_headers q n ≡ (headers q n || is_map_header q n item.form)) → ((q : List ℕ) (x : Bool) → more_sorts q x ≡ (sorts q x || is_community_entry q x item.form)) → fault_given taken name facts place.inside place.head (has_kind place.kinds) second repeated item.form ≡ None → IsWalking taken name all rest place entries headers sorts → IsWalking taken name all (take m (drop 1 rest)) (place_behind name place item.form) more_entries more_headers more_sorts
 passes taken name all [] item m facts place entries more_entries headers more_headers sorts more_sorts second repeated long item-is m-is known sort number e h s none walking = absurd (omega arith)
 passes taken name all (i ∷ is) item m facts place entries more_entries headers more_headers sorts more_sorts second repeated long item-is m-is known sort number e h s none walking =
     let before = walking.0 in
@@ -87,7 +86,7 @@ passes taken name all (i ∷ is) item m facts place entries more_entries headers
     rw rest (before ++ item ∷ [], place_is name before place entries more_entries headers more_headers sorts more_sorts item (is_line item) refl walking.1 e h s, subst (λ (j : IosItem). first_fault_from (is_unknown taken) name all (before ++ j ∷ []) is ≡ first_fault_from (is_unknown taken) name all [] all) (sym item-is) (sym on ∙ walking.2))
 
 -- an item with a fault is the first one
-pub stops : (taken : Forms) (name : List ℕ) (all rest : List IosItem) (item : IosItem) (facts : Facts) (place : Place) (entries : Family → List ℕ → ℕ → Bool) (headers : List ℕ → ℕ → Bool) (sorts : List ℕ → Bool → Bool) (second repeated : Bool) (cause : Cause) → 1 ≤ length rest → item ≡ get_or rest 0 item → Knows name all facts → second ≡ second_sort_given sorts item.form → repeated ≡ repeats_given entries headers item.form → fault_given taken name facts place.inside place.head (has_kind place.kinds) second repeated item.form ≡ Some cause → IsWalking taken name all rest place entries headers sorts → Some (item.span, cause) ≡ first_fault_within taken name all
+pub stops : (taken : IosForm → Bool) (name : List ℕ) (all rest : List IosItem) (item : IosItem) (facts : Facts) (place : Place) (entries : Family → List ℕ → ℕ → Bool) (headers : List ℕ → ℕ → Bool) (sorts : List ℕ → Bool → Bool) (second repeated : Bool) (cause : Cause) → 1 ≤ length rest → item ≡ get_or rest 0 item → Knows name all facts → second ≡ second_sort_given sorts item.form → repeated ≡ repeats_given entries headers item.form → fault_given taken name facts place.inside place.head (has_kind place.kinds) second repeated item.form ≡ Some cause → IsWalking taken name all rest place entries headers sorts → Some (item.span, cause) ≡ first_fault_within taken name all
 unfolding first_fault_within
 stops taken name all [] item facts place entries headers sorts second repeated cause long item-is known sort number fault walking = absurd (omega arith)
 stops taken name all (i ∷ is) item facts place entries headers sorts second repeated cause long item-is known sort number fault walking =
@@ -99,7 +98,7 @@ stops taken name all (i ∷ is) item facts place entries headers sorts second re
     ap (λ (j : IosItem). Some (j.span, cause)) item-is ∙ sym found ∙ walking.2
 
 -- where no item is left there is none
-pub ends : (taken : Forms) (name : List ℕ) (all rest : List IosItem) (place : Place) (entries : Family → List ℕ → ℕ → Bool) (headers : List ℕ → ℕ → Bool) (sorts : List ℕ → Bool → Bool) → length rest < 1 → IsWalking taken name all rest place entries headers sorts → None ≡ first_fault_within taken name all
+pub ends : (taken : IosForm → Bool) (name : List ℕ) (all rest : List IosItem) (place : Place) (entries : Family → List ℕ → ℕ → Bool) (headers : List ℕ → ℕ → Bool) (sorts : List ℕ → Bool → Bool) → length rest < 1 → IsWalking taken name all rest place entries headers sorts → None ≡ first_fault_within taken name all
 unfolding first_fault_within
 ends taken name all [] place entries headers sorts short walking = walking.2
 ends taken name all (i ∷ is) place entries headers sorts short walking = absurd (omega arith)

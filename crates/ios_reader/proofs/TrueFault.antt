@@ -16,7 +16,6 @@ use Rattle.ios_tree.specs.declared.item.IosItem.{IosItem}
 use Rattle.ios_tree.specs.declared.item.MapHeader.{MapHeader as Header}
 use Rattle.ios_tree.specs.declared.item.MapLine.{MapLine}
 use Rattle.ios_tree.specs.declared.item.MapLine.TheVariants.{MatchPrefix, MatchNextHop, MatchCommunity, MatchPath, MatchMetric, SetLocalPreference, SetMetric, SetWeight, SetPrepend, SetOrigin, SetNextHop, SetCommunity, DeleteCommunities, Continue, Description}
-use Rattle.ios_reader.specs.declared.forms.Forms.{Forms}
 use Rattle.ios_reader.specs.Facts.{facts_of, sets_below}
 use Rattle.ios_reader.specs.Given.{reached_given, lists_missing_given, target_missing_given, continues_back_given, is_unsettled_given, is_exact_expanded_given, entry_causes_given, line_cause_of, line_cause_given, line_fault_given, cause_of, fault_given}
 use Rattle.ios_reader.specs.Walk.{head_of}
@@ -141,9 +140,9 @@ line_fault_is name all before (Other o) = refl
 
 -- ---- the fault
 
-abbrev fault_by : Forms → IosForm → Bool → Bool → Bool → Option Cause → Option Cause
+abbrev fault_by : (IosForm → Bool) → IosForm → Bool → Bool → Bool → Option Cause → Option Cause
 fault_by taken form reached second repeated line = elim reached [ true ↦ cause_of (is_unknown taken form) second repeated line | false ↦ None ]
 
 -- the fault by all that holds in the tree is the one of the item
-pub true_fault : (taken : Forms) (name : List ℕ) (all before : List IosItem) (i : IosItem) → fault_given taken name (facts_of name all) (is_inside name false before) (option_map head_of (open_header None before)) (has_line before) (is_second_sort before i.form) (repeats_number before i.form) i.form ≡ fault_at (is_unknown taken) name all before i
+pub true_fault : (taken : IosForm → Bool) (name : List ℕ) (all before : List IosItem) (i : IosItem) → fault_given taken name (facts_of name all) (is_inside name false before) (option_map head_of (open_header None before)) (has_line before) (is_second_sort before i.form) (repeats_number before i.form) i.form ≡ fault_at (is_unknown taken) name all before i
 true_fault taken name all before i = λ j. fault_by taken i.form (reached_is name all before i.form i.span j) (is_second_sort before i.form) (repeats_number before i.form) (line_fault_is name all before i.form j)

@@ -17,7 +17,6 @@ use Rattle.ios_tree.specs.declared.item.IosForm.{IosForm}
 use Rattle.ios_tree.specs.declared.item.IosForm.TheVariants.{PrefixEntry, PrefixDescription, CommunityEntry, PathEntry, MapHeader, Line, Other}
 use Rattle.ios_tree.specs.declared.item.MapLine.{MapLine}
 use Rattle.ios_tree.specs.declared.item.MapLine.TheVariants.{MatchPrefix, MatchNextHop, MatchCommunity, MatchPath, MatchMetric, DeleteCommunities}
-use Rattle.ios_reader.specs.declared.forms.Forms.{Forms}
 use Rattle.ios_reader.specs.Facts.{Facts}
 use Rattle.ios_reader.specs.declared.place.EntryHead.{EntryHead}
 use Rattle.ios_reader.specs.declared.faults.EntryFaults.{EntryFaults}
@@ -127,7 +126,7 @@ repeats_given entries headers (Line l) = false
 repeats_given entries headers (Other o) = false
 
 -- the fault of an item
-abbrev pub fault_given : Forms → List ℕ → Facts → Bool → Option EntryHead → (MapLine → Bool) → Bool → Bool → IosForm → Option Cause
+abbrev pub fault_given : (IosForm → Bool) → List ℕ → Facts → Bool → Option EntryHead → (MapLine → Bool) → Bool → Bool → IosForm → Option Cause
 fault_given taken name facts inside head kinds second repeated form = elim (reached_given name facts inside form) [
   | true ↦ cause_of (is_unknown taken form) second repeated (line_fault_given facts head kinds form)
   | false ↦ None

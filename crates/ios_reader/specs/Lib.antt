@@ -1,6 +1,5 @@
 pub mod Entries
 pub mod Lines
-pub mod FirstForms
 pub mod Profile
 pub mod Faults
 pub mod Seen

@@ -12,7 +12,6 @@ use Rattle.ios_tree.specs.Tree.{is_of_list, family_of}
 use Rattle.ios_tree.specs.Sorts.{sort_of_form, name_of_form, is_line, heads, is_prefix_sort, is_community_sort, is_path_sort, is_description, is_expanded}
 use Rattle.ios_reader.specs.Entries.{onto_lines, entries_of}
 use Rattle.ios_reader.specs.Lines.{names_prefix_list, names_community_list, names_path_list, kind_of, is_description_line, continues, target_of, sets_tested}
-use Rattle.ios_reader.specs.FirstForms.{is_first_form}
 use Rattle.ios_tree.specs.declared.item.ItemSort.{ItemSort}
 use Rattle.ios_tree.specs.declared.item.ItemSort.TheVariants.{PrefixList, CommunityList, PathList, Map}
 use Rattle.ios_tree.specs.declared.item.ItemSort.TheVariants.{Line as LineSort}
@@ -21,8 +20,6 @@ use Rattle.ios_tree.specs.declared.item.IosForm.TheVariants.{PrefixEntry, Prefix
 use Rattle.ios_tree.specs.declared.item.MapHeader.{MapHeader as Header}
 use Rattle.ios_tree.specs.declared.item.MapLine.{MapLine}
 use Rattle.ios_tree.specs.declared.item.MapLine.TheVariants.{MatchPrefix, MatchNextHop, MatchCommunity, MatchPath, DeleteCommunities}
-use Rattle.ios_reader.specs.declared.forms.Forms.{Forms}
-use Rattle.ios_reader.specs.declared.forms.Forms.TheVariants.{All, First}
 use Rattle.ios_tree.specs.declared.item.IosItem.{IosItem}
 
 -- a policy as clauses see it
@@ -246,18 +243,21 @@ first_fault_from unknown name all before (i ∷ is) = elim (fault_at unknown nam
   | None ↦ first_fault_from unknown name all (before ++ i ∷ []) is
 ]
 
--- the forms that are unknown to a caller who takes these
-abbrev pub is_unknown : Forms → IosForm → Bool
-is_unknown All form = has_no_form form
-is_unknown First form = not (is_first_form form)
+-- all forms are taken
+abbrev pub all_forms : IosForm → Bool
+all_forms form = true
+
+-- the form is unknown to a caller who takes these
+abbrev pub is_unknown : (IosForm → Bool) → IosForm → Bool
+is_unknown takes form = not (takes form) || has_no_form form
 
 -- the first fault of the policy of this name, for a caller who takes these forms
-unfoldable pub first_fault_within : Forms → List ℕ → List IosItem → Option (Span × Cause)
-first_fault_within taken name all = first_fault_from (is_unknown taken) name all [] all
+unfoldable pub first_fault_within : (IosForm → Bool) → List ℕ → List IosItem → Option (Span × Cause)
+first_fault_within takes name all = first_fault_from (is_unknown takes) name all [] all
 
 -- the first fault of the policy of this name
 abbrev pub first_fault : List ℕ → List IosItem → Option (Span × Cause)
-first_fault name all = first_fault_within All name all
+first_fault name all = first_fault_within all_forms name all
 
 -- a route-map stands under the name
 unfoldable pub is_defined : List ℕ → List IosItem → Bool

@@ -10,7 +10,6 @@ use Rattle.ios_tree.specs.declared.item.IosForm.TheVariants.{PrefixEntry, Prefix
 use Rattle.ios_tree.specs.declared.item.IosItem.{IosItem}
 use Rattle.ios_tree.specs.declared.item.MapHeader.{MapHeader as Header}
 use Rattle.ios_tree.specs.declared.item.MapLine.{MapLine}
-use Rattle.ios_reader.specs.declared.forms.Forms.{Forms}
 use Rattle.ios_reader.specs.FormSorts.{heads_form}
 use Rattle.ios_reader.specs.declared.place.Place.{Place}
 use Rattle.ios_reader.specs.declared.place.EntryHead.{EntryHead}
@@ -55,6 +54,6 @@ pub record IsBehind (name : List ℕ) (before : List IosItem) (place : Place) (e
   pub sorts_are : (q : List ℕ) (b : Bool) → sorts q b ≡ list_any (λ i. is_community_entry q b i.form) before
 
 -- the walk has come to the rest without a fault
-abbrev pub IsWalking : Forms → List ℕ → List IosItem → List IosItem → Place → (Family → List ℕ → ℕ → Bool) → (List ℕ → ℕ → Bool) → (List ℕ → Bool → Bool) → Type 0
+abbrev pub IsWalking : (IosForm → Bool) → List ℕ → List IosItem → List IosItem → Place → (Family → List ℕ → ℕ → Bool) → (List ℕ → ℕ → Bool) → (List ℕ → Bool → Bool) → Type 0
 IsWalking taken name all rest place entries headers sorts =
     (before : List IosItem) × IsBehind name before place entries headers sorts × (first_fault_from (is_unknown taken) name all before rest ≡ first_fault_from (is_unknown taken) name all [] all)

@@ -9,7 +9,6 @@ ghost use Rattle.ios_reader.specs.Settings.{is_above};
 ghost use Rattle.ios_reader.specs.Walk.{has_kind};
 ghost use Rattle.ios_reader.specs.Given.{reached_given, lists_missing_given, target_missing_given, continues_back_given, is_unsettled_given, is_exact_expanded_given, entry_causes_given, line_cause_of, line_cause_given, line_fault_given, cause_of, second_sort_given, repeats_given, fault_given, causes_in};
 
-use crate::forms::Forms;
 use crate::known::Known;
 use crate::place::{EntryHead, Place, has_kind};
 use crate::seen::{add_entry, add_place, add_sort, has_entry, has_list, has_name};
@@ -17,6 +16,7 @@ use crate::sorts::{
     continues, family_of, is_description_line, is_expanded, is_unknown, name_of_form, sort_of_form,
     stands_under, target_of,
 };
+use crate::takes::Takes;
 use ios_tree::{IosForm, ItemSort, MapLine};
 use policy_text::Cause;
 use route_types::{Family, Memory, Row};
@@ -340,19 +340,18 @@ pub(crate) struct Repeats {
     pub(crate) number: bool,
 }
 
-pub(crate) fn fault_of<'a>(
+pub(crate) fn fault_of<'a, T: Takes>(
     policy: &'a [u8],
     known: &Known<'a>,
-    taken: Forms,
     place: &Place,
     repeats: Repeats,
     form: &'a IosForm,
 ) -> Option<Cause>
-    ensures { result ≡ fault_given taken policy.now (known_facts policy.now known.now) place.now.inside place.now.head (has_kind place.now.kinds) repeats.sort repeats.number form.now }
+    ensures { result ≡ fault_given T.takes policy.now (known_facts policy.now known.now) place.now.inside place.now.head (has_kind place.now.kinds) repeats.sort repeats.number form.now }
 {
     if !is_reached(policy, known, place.inside, form) {
         return None;
     }
     let line = line_fault(policy, known, place, form);
-    cause_of(is_unknown(taken, form), repeats.sort, repeats.number, line)
+    cause_of(is_unknown::<T>(form), repeats.sort, repeats.number, line)
 }

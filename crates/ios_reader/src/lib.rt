@@ -5,23 +5,23 @@
 mod check;
 mod checked;
 mod faults;
-mod forms;
 mod known;
 mod named;
 mod place;
 mod seen;
 mod sorts;
+mod takes;
 mod there;
 mod unsettled;
 
 pub use check::{check_ios, check_ios_within};
 pub use checked::CheckedIos;
-pub use forms::Forms;
 pub use ios_tree::{
     CommunityListEntry, CommunityMatch, CommunitySetting, CommunityShape, IosForm, IosItem,
     IosTree, ItemSort, MapHeader, MapLine, OtherItem, PathListEntry, PathMatch, PrefixDescription,
     PrefixListEntry, PrefixMatch, forms_are_spelled, read_ios,
 };
+pub use takes::{AllForms, Takes};
 
 #[cfg(test)]
 mod check_tests;

@@ -3,11 +3,10 @@ ghost use Rattle.policy_text.specs.Names.{is_named};
 ghost use Rattle.ios_tree.specs.Tree.{family_of};
 ghost use Rattle.ios_tree.specs.Sorts.{sort_of_form, name_of_form, is_line_sort, is_description, is_expanded};
 ghost use Rattle.ios_reader.specs.Lines.{kind_of, is_description_line, continues, target_of};
-ghost use Rattle.ios_reader.specs.FirstForms.{is_first_line, is_first_form};
 ghost use Rattle.ios_reader.specs.Profile.{has_no_form, is_unknown};
 ghost use Rattle.ios_reader.specs.FormSorts.{heads_form};
 
-use crate::forms::Forms;
+use crate::takes::Takes;
 use ios_tree::{CommunityShape, IosForm, ItemSort, MapLine, PrefixListEntry};
 use route_types::{Family, Row};
 
@@ -132,38 +131,10 @@ fn has_no_form(form: &IosForm) -> bool
     }
 }
 
-fn is_first_line(line: &MapLine) -> bool
-    ensures { result ≡ is_first_line line.now }
+pub(crate) fn is_unknown<T: Takes>(form: &IosForm) -> bool
+    ensures { result ≡ is_unknown T.takes form.now }
 {
-    match line {
-        MapLine::MatchPrefix(test) => test.lists.len() == 1,
-        MapLine::SetLocalPreference(_) => true,
-        MapLine::Description => true,
-        _ => false,
-    }
-}
-
-fn is_first_form(form: &IosForm) -> bool
-    ensures { result ≡ is_first_form form.now }
-{
-    match form {
-        IosForm::PrefixEntry(entry) => entry.has_seq && entry.entry.permit,
-        IosForm::PrefixDescription(_) => true,
-        IosForm::CommunityEntry(_) => false,
-        IosForm::PathEntry(_) => false,
-        IosForm::MapHeader(_) => true,
-        IosForm::Line(line) => is_first_line(line),
-        IosForm::Other(_) => false,
-    }
-}
-
-pub(crate) fn is_unknown(taken: Forms, form: &IosForm) -> bool
-    ensures { result ≡ is_unknown taken form.now }
-{
-    match taken {
-        Forms::All => has_no_form(form),
-        Forms::First => !is_first_form(form),
-    }
+    !T::takes(form) || has_no_form(form)
 }
 
 // ---- lines

@@ -2,6 +2,7 @@ pub mod ClapCommands
 pub mod Command
 pub mod Spelled
 pub mod Causes
+pub mod FirstForms
 pub mod Checked
 pub mod Translation
 pub mod Translated

@@ -9,6 +9,7 @@
 mod checked;
 mod clap_command;
 mod command;
+mod first_forms;
 mod judge;
 mod lines;
 mod place;

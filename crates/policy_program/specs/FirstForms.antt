@@ -1,7 +1,7 @@
 -- The forms that translation takes for now.
 use Rattle.std.specs.Prelude.{Bool, true, false, ◌&&◌, ◌==◌, length}
 use Rattle.ios_tree.specs.declared.item.IosForm.{IosForm}
-use Rattle.ios_tree.specs.declared.item.IosForm.TheVariants.{PrefixEntry, PrefixDescription, CommunityEntry, PathEntry, MapHeader, Line, Other}
+use Rattle.ios_tree.specs.declared.item.IosForm.TheVariants.{PrefixEntry, PrefixDescription, MapHeader, Line}
 use Rattle.ios_tree.specs.declared.item.MapLine.{MapLine}
 use Rattle.ios_tree.specs.declared.item.MapLine.TheVariants.{MatchPrefix, SetLocalPreference, Description}
 
@@ -16,8 +16,6 @@ is_first_line _ = false
 abbrev pub is_first_form : IosForm → Bool
 is_first_form (PrefixEntry e) = e.has_seq && e.entry.permit
 is_first_form (PrefixDescription d) = true
-is_first_form (CommunityEntry e) = false
-is_first_form (PathEntry e) = false
 is_first_form (MapHeader h) = true
 is_first_form (Line l) = is_first_line l
-is_first_form (Other o) = false
+is_first_form _ = false
