@@ -3,13 +3,14 @@ ghost use Rattle.ios_reader.specs.Profile.{InProfile, all_forms, first_fault_wit
 ghost use Rattle.ios_reader.specs.Faults.{IsCheckFault};
 
 use crate::checked::CheckedIos;
-use crate::faults::{Repeats, fault_of, note_number, note_sort};
+use crate::faults::fault_of;
+use crate::items::heads;
 use crate::known::known_of;
+use crate::names::Marked;
 use crate::place::{place_behind, place_of_start};
-use crate::sorts::heads;
 use crate::takes::{AllForms, Takes};
 use ios_tree::{IosItem, IosTree};
-use policy_text::{Cause, CheckFault, Span, copied};
+use policy_text::{Cause, CheckFault, NameOf, Span, copied};
 use route_types::{Memory, Row};
 use std::alloc::Global;
 use std::collections::BTreeSet;
@@ -22,19 +23,15 @@ fn first_fault<'a, T: Takes>(
     ensures { IfOk result (λ o. o ≡ first_fault_within T.takes policy.now items.now) }
 {
     let known = known_of(alloc, policy, items)?;
-    let mut entries = BTreeSet::new(alloc);
-    let mut headers = BTreeSet::new(alloc);
-    let mut sorts = BTreeSet::new(alloc);
+    let mut marks = BTreeSet::new(alloc);
     let mut place = place_of_start();
     let mut rest = items;
     while let [item, tail @ ..] = rest {
-        let number = note_number(&mut entries, &mut headers, &item.form)?;
-        let sort = note_sort(&mut sorts, &item.form)?;
-        let repeats = Repeats { sort, number };
-        if let Some(cause) = fault_of::<T>(policy, &known, &place, repeats, &item.form) {
+        if let Some(cause) = fault_of::<T>(&known, &place, &marks, &item.form) {
             return Ok(Some((item.span, cause)));
         }
-        place = place_behind(policy, place, &item.form);
+        Marked::note(&mut marks, item)?;
+        place = place_behind(policy, place, item);
         rest = tail;
     }
     Ok(None)
@@ -78,7 +75,7 @@ fn one_name(alloc: Global, name: &[u8]) -> Result<Row<Row<u8>>, Memory>
 
 /// As `check_ios`, for a caller who takes the forms of `T` alone: a reached statement of another form is
 /// of an unknown one (`UnknownForm`), and counts among the faults by its place in the text.
-#[tactic(auto, using(crate::proofs::Fewer::is_in_profile))]
+#[tactic(auto, using(crate::proofs::LeastFault::is_in_profile))]
 pub fn check_ios_within<T: Takes>(
     alloc: Global,
     tree: IosTree,

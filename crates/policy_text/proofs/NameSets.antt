@@ -27,6 +27,10 @@ both_equal Less p = refl
 both_equal Equal p = refl
 both_equal Greater p = refl
 
+and_none : (b : Bool) → (b && false) ≡ false
+and_none true = refl
+and_none false = refl
+
 numbers_equal : (m n : ℕ) → is_eq (nat_cmp m n) ≡ (n == m)
 numbers_equal m n =
     elim (cases_order m n) [
@@ -36,6 +40,14 @@ numbers_equal m n =
         | inr gt ↦ rw (le-ltb m n (omega arith), ne_eqb m n (λ e. absurd (omega arith)), ne_eqb n m (λ e. absurd (omega arith))) refl
       ]
     ]
+
+turned : (a b c : Bool) → (a && b && c) ≡ (c && b && a)
+turned true true true = refl
+turned true true false = refl
+turned true false true = refl
+turned true false false = refl
+turned false b true = sym (and_none b)
+turned false b false = refl
 
 abbrev Keys : Type 0
 Keys = BTreeSet (Bor (List ℕ) × ℕ × ℕ)
@@ -47,5 +59,5 @@ name_added bs sort number old new h q s n =
     let at : has_name new q s n ≡ cond (is_eq (ordering_then (ordering_then (slice_cmp nat_cmp bs q) (nat_cmp sort s)) (nat_cmp number n))) true (has_name old q s n) = h.0 (record { ref_ptr = (0, 0); now = q }, s, n) in
     let test : is_eq (ordering_then (ordering_then (slice_cmp nat_cmp bs q) (nat_cmp sort s)) (nat_cmp number n)) ≡ is_key q s n bs sort number =
     both_equal (ordering_then (slice_cmp nat_cmp bs q) (nat_cmp sort s)) (nat_cmp number n)
-    ∙ rw (both_equal (slice_cmp nat_cmp bs q) (nat_cmp sort s), numbers_equal number n, numbers_equal sort s, is_eq-slice_cmp bs q ∙ bytes_sym bs q) refl in
+    ∙ rw (both_equal (slice_cmp nat_cmp bs q) (nat_cmp sort s), numbers_equal number n, numbers_equal sort s, is_eq-slice_cmp bs q ∙ bytes_sym bs q) (turned (bytes_eq q bs) (s == sort) (n == number)) in
     at ∙ ap (λ (b : Bool). cond b true (has_name old q s n)) test ∙ or_from_cond (is_key q s n bs sort number) (has_name old q s n)

@@ -12,4 +12,4 @@ has_name s name sort number = list_any (λ k. is_eq (ordering_then (ordering_the
 
 -- the name, the sort and the number are these
 abbrev pub is_key : List ℕ → ℕ → ℕ → List ℕ → ℕ → ℕ → Bool
-is_key name sort number other other_sort other_number = bytes_eq name other && (sort == other_sort) && (number == other_number)
+is_key name sort number other other_sort other_number = (number == other_number) && (sort == other_sort) && bytes_eq name other
