@@ -6,7 +6,7 @@ use Rattle.text_words.specs.declared.statement.Span.{Span}
 use Rattle.policy_text.specs.declared.fault.Cause.{Cause}
 use Rattle.ios_tree.specs.declared.item.IosForm.{IosForm}
 use Rattle.ios_tree.specs.declared.item.IosItem.{IosItem}
-use Rattle.ios_reader.specs.Facts.{Facts, facts_of, Before, before_of}
+use Rattle.ios_reader.specs.Facts.{Facts, facts_of}
 use Rattle.ios_reader.specs.Profile.{is_fault, rules_of, span_of, first_fault_within}
 use Rattle.ios_reader.specs.Known.{told}
 use Rattle.ios_reader.specs.Walk.{Marks, IsBehind, IsWalking}

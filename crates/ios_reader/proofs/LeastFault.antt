@@ -1,5 +1,5 @@
 -- Where the first fault is, and that a caller who takes fewer forms finds more faults.
-use Rattle.std.proofs.Common.{◌≡◌, refl, ℕ, ◌<◌, ◌≤◌, Bool, true, false, not, ◌&&◌, ◌||◌, List, [], ◌∷◌, Some, None, arith}
+use Rattle.std.proofs.Common.{◌≡◌, refl, ℕ, ◌<◌, Bool, true, false, not, ◌&&◌, ◌||◌, List, [], ◌∷◌, Some, None, arith}
 use Rattle.std.specs.List.{AllByRecursion}
 use Rattle.text_words.specs.declared.statement.Span.{Span}
 use Rattle.policy_text.specs.Causes.{Rise}

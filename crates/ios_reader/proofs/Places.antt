@@ -1,5 +1,5 @@
 -- What stands before, behind one more item.
-use Rattle.std.proofs.Common.{◌≡◌, refl, sym, ap, ◌∙◌, ℕ, ◌<◌, Bool, true, false, ◌||◌, List, [], ◌∷◌, length, get_or, Option, None, inl, inr, arith}
+use Rattle.std.proofs.Common.{◌≡◌, refl, sym, ap, ◌∙◌, ℕ, ◌<◌, Bool, true, false, ◌||◌, List, [], ◌∷◌, length, get_or, None, inl, inr, arith}
 use Rattle.std.specs.Prelude.{◌==◌, option_map, set, IfSome}
 use Rattle.std.specs.List.{list_any}
 use Rattle.std.proofs.lemmas.Bool.{cases_order, eq-eqb, ne_eqb}
@@ -14,8 +14,7 @@ use Rattle.ios_tree.specs.declared.item.MapLine.{MapLine}
 use Rattle.ios_reader.specs.Entries.{onto_lines}
 use Rattle.ios_reader.specs.Items.{header_in, line_in, sort_code, is_marked}
 use Rattle.ios_reader.specs.Lines.{kind_of}
-use Rattle.ios_reader.specs.Facts.{Before, is_inside, open_header, open_lines, before_of}
-use Rattle.ios_reader.specs.Known.{told}
+use Rattle.ios_reader.specs.Facts.{Before, is_inside, open_header, open_lines}
 use Rattle.ios_reader.specs.Walk.{has_kind, no_kinds, kinds_with, Marks, KeepsMark, IsBehind}
 use Rattle.ios_reader.specs.declared.place.Place.{Place}
 
@@ -63,8 +62,12 @@ module _ (name : List ℕ) (before : List IosItem) (place next : Place) (marks m
       let kind : (k : ℕ) → has_kind next.kinds k ≡ among k (open_lines (i ∷ before)) =
       λ k. rw (open_lines, line) (ap (λ (ks : List Bool). has_kind ks k) kinds ∙ kinds_more place.kinds (open_lines before) i.form behind.len within (λ k. ap (λ (b : Before). b.kinds k) behind.tells) k) in
       record {
-        tells = λ j. record { inside = same j; header = head j; kinds = λ k. kind k j;
-          marked = λ sort q n. (keeps q (sort_code sort) n ∙ ap (λ (b : Before). is_marked q (sort_code sort) n i.form || b.marked sort q n) behind.tells) j };
+        tells = λ j. record {
+          inside = same j;
+          header = head j;
+          kinds = λ k. kind k j;
+          marked = λ sort q n. (keeps q (sort_code sort) n ∙ ap (λ (b : Before). is_marked q (sort_code sort) n i.form || b.marked sort q n) behind.tells) j;
+        };
         len = ap (λ (ks : List Bool). length ks) kinds ∙ kinds_len place.kinds i.form ∙ behind.len;
       }
 
@@ -75,15 +78,23 @@ module _ (name : List ℕ) (before : List IosItem) (place next : Place) (marks m
       let head : option_map (λ h. h.now) next.header ≡ open_header (i ∷ before) = rw (open_header, line) header in
       let kind : (k : ℕ) → has_kind next.kinds k ≡ among k (open_lines (i ∷ before)) = λ k. rw (open_lines, line) (ap (λ (ks : List Bool). has_kind ks k) kinds ∙ no_kind k) in
       record {
-        tells = λ j. record { inside = same j; header = head j; kinds = λ k. kind k j;
-          marked = λ sort q n. (keeps q (sort_code sort) n ∙ ap (λ (b : Before). is_marked q (sort_code sort) n i.form || b.marked sort q n) behind.tells) j };
+        tells = λ j. record {
+          inside = same j;
+          header = head j;
+          kinds = λ k. kind k j;
+          marked = λ sort q n. (keeps q (sort_code sort) n ∙ ap (λ (b : Before). is_marked q (sort_code sort) n i.form || b.marked sort q n) behind.tells) j;
+        };
         len = ap (λ (ks : List Bool). length ks) kinds;
       }
 
 -- before the first item
 pub nothing_before : (name : List ℕ) (place : Place) (marks : Marks) → place ≡ record { inside = false; header = None; kinds = no_kinds } → marks.keys ≡ [] → IsBehind name [] place marks
 nothing_before name place marks start none = rw start (record {
-  tells = λ j. record { inside = false; header = None; kinds = λ k. no_kind k j;
-    marked = λ sort q n. (let empty : has_name marks q (sort_code sort) n ≡ false = rw none refl in empty) j };
+  tells = λ j. record {
+    inside = false;
+    header = None;
+    kinds = λ k. no_kind k j;
+    marked = λ sort q n. (let empty : has_name marks q (sort_code sort) n ≡ false = rw none refl in empty) j;
+  };
   len = refl;
 })

@@ -1,5 +1,5 @@
 -- What the check keeps of the tree and of the items before, as the tests that the rules look at.
-use Rattle.std.specs.Prelude.{◌≡◌, ℕ, Bool, false, nat_lt, List, Option, Some, None, option_map, get_or, length}
+use Rattle.std.specs.Prelude.{ℕ, Bool, false, nat_lt, List, Option, Some, None, option_map, get_or}
 use Rattle.policy_text.specs.NameSets.{has_name}
 use denote.Ref.{Bor}
 use Rattle.std.specs.BTreeSet.{BTreeSet}

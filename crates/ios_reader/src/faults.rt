@@ -11,7 +11,7 @@ use crate::items::{
     family_of, is_unknown, name_of_form, shape_code, sort_code, sort_of_form, stands_under,
 };
 use crate::known::{Known, least_of};
-use crate::lines::{continues, is_description_line, lists_named, tested_by, target_of};
+use crate::lines::{continues, is_description_line, lists_named, target_of, tested_by};
 use crate::place::{Place, has_kind};
 use crate::takes::Takes;
 use ios_tree::{IosForm, ItemSort, MapHeader, MapLine};
@@ -140,7 +140,12 @@ fn target_missing(known: &Known<'_>, header: &MapHeader, target: Option<u64>) ->
     }
 }
 
-fn is_undefined<'a>(known: &Known<'a>, place: &Place<'a>, marks: &NameSet<'a>, line: &'a MapLine) -> bool
+fn is_undefined<'a>(
+    known: &Known<'a>,
+    place: &Place<'a>,
+    marks: &NameSet<'a>,
+    line: &'a MapLine,
+) -> bool
     ensures { result ≡ is_undefined (known_facts known.now) (told place.now marks.now) line.now }
 {
     if lists_missing(known, line) {
@@ -185,7 +190,12 @@ fn is_above(least: Option<u64>, number: u64) -> bool
     }
 }
 
-fn is_unsettled<'a>(known: &Known<'a>, place: &Place<'a>, marks: &NameSet<'a>, line: &MapLine) -> bool
+fn is_unsettled<'a>(
+    known: &Known<'a>,
+    place: &Place<'a>,
+    marks: &NameSet<'a>,
+    line: &MapLine,
+) -> bool
     ensures { result ≡ is_unsettled (known_facts known.now) (told place.now marks.now) line.now }
 {
     match (place.header, tested_by(line)) {

@@ -57,11 +57,7 @@ impl NameOf<IosItem> for Marked {
 
 // ---- the lists that lines name
 
-fn add_lists<'a>(
-    names: &mut NameSet<'a>,
-    sort: u64,
-    lists: &'a [Row<u8>],
-) -> Result<(), Memory>
+fn add_lists<'a>(names: &mut NameSet<'a>, sort: u64, lists: &'a [Row<u8>]) -> Result<(), Memory>
     ensures { OnOk result ((q : List ℕ) (s n : ℕ) → has_name names.new q s n ≡ (((n == 0) && (s == sort) && list_any (bytes_eq q) lists.now) || has_name names.old q s n)) }
 {
     let mut rest = lists;
