@@ -47,20 +47,3 @@ pub use pattern::{
 };
 pub use rows::{finds, matches};
 pub use token_form::tokens;
-
-#[cfg(test)]
-mod ios_print_tests;
-#[cfg(test)]
-mod ios_read_tests;
-#[cfg(test)]
-mod junos_print_tests;
-#[cfg(test)]
-mod junos_read_tests;
-#[cfg(test)]
-mod range_words_tests;
-#[cfg(test)]
-mod rows_tests;
-#[cfg(test)]
-mod tests;
-#[cfg(test)]
-mod token_form_tests;

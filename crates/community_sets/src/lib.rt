@@ -5,6 +5,3 @@
 mod list;
 
 pub use list::{CommEntry, CommList, CommTest, list_holds};
-
-#[cfg(test)]
-mod tests;

@@ -34,9 +34,3 @@ pub use run::run;
 pub use status::Status;
 pub use translate::translate;
 pub use word_laws::{refused_by_a_cause, words_ask_once};
-
-#[cfg(test)]
-mod tests;
-
-#[cfg(test)]
-use std::alloc::Global;
