@@ -1,5 +1,5 @@
 // Texts of routes: a policy that accepts all prints the route again, or the line is told that is none.
-use crate::routes::route_text;
+use crate::routes::{route_text, route_without};
 use crate::runs::{JUDGE, shows, unfailing};
 use std::alloc::AllocGlobal;
 use std::process::Abort;
@@ -88,89 +88,24 @@ fn route_lines_refused(rt: HostRuntime) -> Result<(), Fail> {
 
 #[test]
 fn lines_missing_or_too_many(rt: HostRuntime) -> Result<(), Fail> {
-    for (route, told) in [
-        ("", "r.txt:1: not a route"),
-        (
-            "\
-next-hop self
-as-path
-origin igp
-local-preference 100
-med 0
-weight 0
-communities
-",
-            "r.txt:1: not a route",
-        ),
-        (
-            "\
-Route 10.1.0.0/16
-next-hop self
-as-path
-origin igp
-local-preference 100
-med 0
-weight 0
-communities
-",
-            "r.txt:1: not a route",
-        ),
-        (
-            "\
-route 10.1.0.0/16
-next-hop self
-origin igp
-as-path
-local-preference 100
-med 0
-weight 0
-communities
-",
-            "r.txt:3: not a route",
-        ),
-        (
-            "\
-route 10.1.0.0/16
-next-hop 192.0.2.1
-as-path 65001
-origin igp
-local-preference 100
-med 0
-weight 0
-",
-            "r.txt:8: not a route",
-        ),
-        (
-            "\
-route 10.1.0.0/16
-next-hop 192.0.2.1
-as-path 65001
-origin igp
-local-preference 100
-med 0
-weight 0
-community 1:1
-",
-            "r.txt:8: not a route",
-        ),
-        (
-            "\
-route 10.1.0.0/16
-next-hop 192.0.2.1
-as-path 65001
-origin igp
-local-preference 100
-med 0
-weight 0
-communities 1:1
-
-",
-            "r.txt:9: not a route",
-        ),
+    for (missing, front, behind, told) in [
+        (0, "", "", "r.txt:1: not a route"),
+        (1, "", "", "r.txt:2: not a route"),
+        (2, "", "", "r.txt:3: not a route"),
+        (3, "", "", "r.txt:4: not a route"),
+        (4, "", "", "r.txt:5: not a route"),
+        (5, "", "", "r.txt:6: not a route"),
+        (6, "", "", "r.txt:7: not a route"),
+        (7, "", "", "r.txt:8: not a route"),
+        (0, "Route 10.0.0.0/8\n", "", "r.txt:1: not a route"),
+        (7, "", "community 1:1\n", "r.txt:8: not a route"),
+        (8, "", "\n", "r.txt:9: not a route"),
     ] {
-        read(&rt, route, (10, "", told))?;
+        let route = route_without(rt.alloc(), missing)?;
+        let text = format!(in rt.alloc(); "{front}{route}{behind}")?;
+        read(&rt, text.as_str(), (10, "", told))?;
     }
-    Ok(())
+    read(&rt, "", (10, "", "r.txt:1: not a route"))
 }
 
 #[test]

@@ -52,6 +52,18 @@ pub fn route_text(
     Ok(text)
 }
 
+/// The text of the plain route without its line at this place, counted from 0.
+pub fn route_without(alloc: Global, place: usize) -> Result<String, Fail> {
+    let mut text = String::new(alloc);
+    for (at, line) in PLAIN.iter().enumerate() {
+        if at != place {
+            text.push_str(line)?;
+            text.push_str("\n")?;
+        }
+    }
+    Ok(text)
+}
+
 /// The text of an outcome for the route with the lines `given`.
 fn outcome_text(alloc: Global, given: &[&'static str], verdict: Verdict) -> Result<String, Fail> {
     match verdict {
