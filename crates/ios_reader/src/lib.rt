@@ -24,12 +24,3 @@ pub use ios_tree::{
 };
 pub use laws::first_fault_is_least;
 pub use takes::{AllForms, Takes};
-
-#[cfg(test)]
-mod check_tests;
-#[cfg(test)]
-mod later_tests;
-#[cfg(test)]
-mod path_tests;
-#[cfg(test)]
-mod tests;
