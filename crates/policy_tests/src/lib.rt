@@ -5,13 +5,9 @@
 #[cfg(test)]
 mod causes;
 #[cfg(test)]
-mod community_lists;
-#[cfg(test)]
 mod customer;
 #[cfg(test)]
 mod diagrams;
-#[cfg(test)]
-mod entries;
 #[cfg(test)]
 mod files;
 #[cfg(test)]
@@ -21,11 +17,9 @@ mod outside;
 #[cfg(test)]
 mod path_items;
 #[cfg(test)]
-mod path_lists;
-#[cfg(test)]
 mod path_patterns;
 #[cfg(test)]
-mod prefix_lists;
+mod policies;
 #[cfg(test)]
 mod prefix_ranges;
 #[cfg(test)]
@@ -37,12 +31,8 @@ mod routes;
 #[cfg(test)]
 mod runs;
 #[cfg(test)]
-mod set_lines;
-#[cfg(test)]
 mod statements;
 #[cfg(test)]
 mod texts;
-#[cfg(test)]
-mod value_words;
 #[cfg(test)]
 mod words;

@@ -104,34 +104,34 @@ fn many_free_items_match_a_long_path(rt: HostRuntime) -> Result<(), Memory> {
 }
 
 /// Branches of items, and their text for IOS where they have one.
-const IOS_TEXTS: &[(&[Parts], Option<&str>)] = &[
+const IOS_TEXTS: &[(&[Parts], Option<&[u8]>)] = &[
     (
         &[&[
             (&[(65001, 65001)], 1, Some(1)),
             (ALL, 1, None),
             (&[(65002, 65002)], 1, Some(1)),
         ]],
-        Some("^65001_[0-9]+(_[0-9]+)*_65002$"),
+        Some(b"^65001_[0-9]+(_[0-9]+)*_65002$"),
     ),
-    (&[&[ONE_OR_NONE, TWO]], Some("^1_2$|^2$")),
-    (&[&[]], Some("^$")),
-    (&[&[ANY]], Some(".*")),
+    (&[&[ONE_OR_NONE, TWO]], Some(b"^1_2$|^2$")),
+    (&[&[]], Some(b"^$")),
+    (&[&[ANY]], Some(b".*")),
     (
         &[&[ANY, ONE_OR_NONE, TWO]],
-        Some("^[0-9]+(_[0-9]+)*(_1)?_2$|^1_2$|^2$"),
+        Some(b"^[0-9]+(_[0-9]+)*(_1)?_2$|^1_2$|^2$"),
     ),
-    (&[&[(&[(1, 1)], 2, None)]], Some("^1_1(_1)*$")),
+    (&[&[(&[(1, 1)], 2, None)]], Some(b"^1_1(_1)*$")),
     (
         &[&[ANY, ANY]],
-        Some("^[0-9]+(_[0-9]+)*_|^[0-9]+(_[0-9]+)*$|^$"),
+        Some(b"^[0-9]+(_[0-9]+)*_|^[0-9]+(_[0-9]+)*$|^$"),
     ),
-    (&[&[TWO, ANY]], Some("^2_")),
-    (&[&[TWO, ONE_OR_NONE, ANY]], Some("^2(_1)?(_[0-9]+)*$")),
-    (&[&[(&[(1, 1)], 0, Some(2))]], Some("^1(_1)?$|^$")),
-    (&[&[(&[(3, 5), (1, 1)], 1, Some(1))]], Some("^(1|[3-5])$")),
-    (&[&[(&[(0, 9)], 1, Some(1))]], Some("^[0-9]$")),
-    (&[&[(&[(1, 1)], 0, Some(0)), TWO]], Some("^2$")),
-    (&[&[(&[], 0, None), TWO]], Some("^2$")),
+    (&[&[TWO, ANY]], Some(b"^2_")),
+    (&[&[TWO, ONE_OR_NONE, ANY]], Some(b"^2(_1)?(_[0-9]+)*$")),
+    (&[&[(&[(1, 1)], 0, Some(2))]], Some(b"^1(_1)?$|^$")),
+    (&[&[(&[(3, 5), (1, 1)], 1, Some(1))]], Some(b"^(1|[3-5])$")),
+    (&[&[(&[(0, 9)], 1, Some(1))]], Some(b"^[0-9]$")),
+    (&[&[(&[(1, 1)], 0, Some(0)), TWO]], Some(b"^2$")),
+    (&[&[(&[], 0, None), TWO]], Some(b"^2$")),
     (&[&[(&[(1, 1)], 3, Some(2))]], None),
     (&[&[(&[(2, 1)], 1, None)]], None),
     (&[&[TWO, (&[(1, 1)], 1, Some(0))]], None),
@@ -147,7 +147,7 @@ const IOS_TEXTS: &[(&[Parts], Option<&str>)] = &[
             &[(&[(3, 3)], 0, Some(0))],
             &[ONE_OR_NONE],
         ],
-        Some("^2$|^$|^1$|^$"),
+        Some(b"^2$|^$|^1$|^$"),
     ),
 ];
 
@@ -156,43 +156,43 @@ fn printed_for_ios(rt: HostRuntime) -> Result<(), Memory> {
     for (branches, want) in IOS_TEXTS {
         let built = pattern(rt.alloc(), branches)?;
         let text = print_ios(rt.alloc(), &built)?;
-        assert_eq!(rt; text.as_deref(), want.map(str::as_bytes), "{branches:?}");
+        assert_eq!(rt; text.as_deref(), *want, "{branches:?}");
     }
     Ok(())
 }
 
 /// Items, and their text for Junos where they have one.
-const JUNOS_TEXTS: &[(Parts, Option<&str>)] = &[
-    (&[(SEVEN, 1, Some(1))], Some("7")),
-    (&[(SEVEN, 0, None)], Some("7*")),
-    (&[(SEVEN, 1, None)], Some("7+")),
-    (&[(SEVEN, 0, Some(1))], Some("7?")),
-    (&[(SEVEN, 2, Some(2))], Some("7{2}")),
-    (&[(SEVEN, 2, None)], Some("7{2,}")),
-    (&[(SEVEN, 2, Some(3))], Some("7{2,3}")),
-    (&[(SEVEN, 300, Some(300))], Some("7{255} 7{45}")),
-    (&[(SEVEN, 0, Some(300))], Some("7{0,255} 7{0,45}")),
-    (&[(SEVEN, 511, None)], Some("7{255} 7{255} 7+")),
+const JUNOS_TEXTS: &[(Parts, Option<&[u8]>)] = &[
+    (&[(SEVEN, 1, Some(1))], Some(b"7")),
+    (&[(SEVEN, 0, None)], Some(b"7*")),
+    (&[(SEVEN, 1, None)], Some(b"7+")),
+    (&[(SEVEN, 0, Some(1))], Some(b"7?")),
+    (&[(SEVEN, 2, Some(2))], Some(b"7{2}")),
+    (&[(SEVEN, 2, None)], Some(b"7{2,}")),
+    (&[(SEVEN, 2, Some(3))], Some(b"7{2,3}")),
+    (&[(SEVEN, 300, Some(300))], Some(b"7{255} 7{45}")),
+    (&[(SEVEN, 0, Some(300))], Some(b"7{0,255} 7{0,45}")),
+    (&[(SEVEN, 511, None)], Some(b"7{255} 7{255} 7+")),
     (
         &[(SEVEN, 257, Some(1000))],
-        Some("7{255} 7{2,255} 7{0,255} 7{0,235}"),
+        Some(b"7{255} 7{2,255} 7{0,255} 7{0,235}"),
     ),
-    (&[(SEVEN, 0, Some(0))], Some("()")),
+    (&[(SEVEN, 0, Some(0))], Some(b"()")),
     (&[(SEVEN, 3, Some(2))], None),
-    (&[(&[(1, 1), (3, 5)], 1, Some(1))], Some("(1|3-5)")),
+    (&[(&[(1, 1), (3, 5)], 1, Some(1))], Some(b"(1|3-5)")),
     (
         &[(
             &[(30, 39), (7, 3), (1, 5), (4, 9), (10, 10), (12, 12)],
             1,
             Some(1),
         )],
-        Some("(1-10|12|30-39)"),
+        Some(b"(1-10|12|30-39)"),
     ),
-    (&[(&[(10, 4294967295), (0, 9)], 1, Some(1))], Some(".")),
-    (&[(&[(0, 4294967294)], 1, Some(1))], Some("0-4294967294")),
+    (&[(&[(10, 4294967295), (0, 9)], 1, Some(1))], Some(b".")),
+    (&[(&[(0, 4294967294)], 1, Some(1))], Some(b"0-4294967294")),
     (&[(&[(2, 1)], 1, Some(1))], None),
-    (&[], Some("()")),
-    (&[ONE, (&[], 0, None), (ALL, 1, None), TWO], Some("1 .+ 2")),
+    (&[], Some(b"()")),
+    (&[ONE, (&[], 0, None), (ALL, 1, None), TWO], Some(b"1 .+ 2")),
 ];
 
 #[test]
@@ -200,7 +200,7 @@ fn printed_for_junos(rt: HostRuntime) -> Result<(), Memory> {
     for (parts, want) in JUNOS_TEXTS {
         let built = branch(rt.alloc(), parts)?;
         let text = print_junos(rt.alloc(), &built)?;
-        assert_eq!(rt; text.as_deref(), want.map(str::as_bytes), "{parts:?}");
+        assert_eq!(rt; text.as_deref(), *want, "{parts:?}");
     }
     Ok(())
 }

@@ -76,16 +76,17 @@ fn shapes(rt: HostRuntime) {
         (b"^65001$", true, false),
     ];
     for (text, ios, junos) in rows {
-        let fault = |shaped: bool| if shaped {
-            None
-        } else {
-            Some(PatternFault::NotShaped)
-        };
-        assert_eq!(rt;
-            faults(rt.alloc(), text),
-            (fault(ios), fault(junos)),
-            "{text:?}"
-        );
+        let want = (fault(ios), fault(junos));
+        assert_eq!(rt; faults(rt.alloc(), text), want, "{text:?}");
+    }
+}
+
+/// The fault of a text that is none of a shape.
+fn fault(shaped: bool) -> Option<PatternFault> {
+    if shaped {
+        None
+    } else {
+        Some(PatternFault::NotShaped)
     }
 }
 

@@ -60,14 +60,44 @@ communities 1:2 1:10 2:0
 }
 
 #[test]
+fn route_lines_read(rt: HostRuntime) -> Result<(), Fail> {
+    for (line, printed) in [
+        ("route 10.1.2.255/25", "route 10.1.2.128/25"),
+        ("route 10.1.2.3/32", "route 10.1.2.3/32"),
+        ("route 255.255.255.255/0", "route 0.0.0.0/0"),
+        ("next-hop 0.0.0.0", "next-hop 0.0.0.0"),
+        ("next-hop 255.255.255.255", "next-hop 255.255.255.255"),
+        ("as-path 0 4294967295", "as-path 0 4294967295"),
+        ("communities 65535:65535 0:0", "communities 0:0 65535:65535"),
+    ] {
+        let text = route_text(rt.alloc(), &[line], &[])?;
+        let route = route_text(rt.alloc(), &[printed], &[])?;
+        let outcome = format!(in rt.alloc(); "accept\n{route}")?;
+        read(&rt, text.as_str(), (0, outcome.as_str(), ""))?;
+    }
+    Ok(())
+}
+
+#[test]
 fn route_lines_refused(rt: HostRuntime) -> Result<(), Fail> {
     for (line, told) in [
         ("route 10.1.0.0", "r.txt:1: not a route"),
+        ("route 10.1.0.0/", "r.txt:1: not a route"),
         ("route 10.1.0.0/33", "r.txt:1: not a route"),
+        ("route 10.1.0.0/08", "r.txt:1: not a route"),
+        ("route 10.1.0.0/+8", "r.txt:1: not a route"),
+        ("route 10.1.0.0/8/8", "r.txt:1: not a route"),
+        ("route /8", "r.txt:1: not a route"),
         ("route 10.1.0.0/16 10.2.0.0/16", "r.txt:1: not a route"),
         ("next-hop", "r.txt:2: not a route"),
         ("next-hop me", "r.txt:2: not a route"),
         ("next-hop 1", "r.txt:2: not a route"),
+        ("next-hop 10.1.2", "r.txt:2: not a route"),
+        ("next-hop 10.1.2.", "r.txt:2: not a route"),
+        ("next-hop 10.1.2.3.4", "r.txt:2: not a route"),
+        ("next-hop 10.1.2.256", "r.txt:2: not a route"),
+        ("next-hop 10.1.02.3", "r.txt:2: not a route"),
+        ("next-hop 10.1.2.3/32", "r.txt:2: not a route"),
         ("as-path 65001 4294967296", "r.txt:3: not a route"),
         ("as-path 65001,7", "r.txt:3: not a route"),
         ("origin other", "r.txt:4: not a route"),
@@ -77,6 +107,11 @@ fn route_lines_refused(rt: HostRuntime) -> Result<(), Fail> {
         ("med -1", "r.txt:6: not a route"),
         ("weight 65536", "r.txt:7: not a route"),
         ("communities 65536:0", "r.txt:8: not a route"),
+        ("communities 0:65536", "r.txt:8: not a route"),
+        ("communities 65001:01", "r.txt:8: not a route"),
+        ("communities 65001:", "r.txt:8: not a route"),
+        ("communities 65001", "r.txt:8: not a route"),
+        ("communities 1:2:3", "r.txt:8: not a route"),
         ("communities 1:1 internet", "r.txt:8: not a route"),
         ("communities 1:1\r\r", "r.txt:8: not a route"),
     ] {

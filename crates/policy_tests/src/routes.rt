@@ -1,7 +1,5 @@
-// What a policy makes of routes: each route and each outcome by the lines that differ from a plain one's.
-use crate::runs::{JUDGE, shows, unfailing};
-use std::alloc::{AllocGlobal, Global};
-use std::process::Abort;
+// Texts of routes: a plain one, and others by the lines that differ from it.
+use std::alloc::Global;
 use std::test::Fail;
 
 /// The lines of the plain route.
@@ -15,18 +13,6 @@ const PLAIN: [&str; 8] = [
     "weight 0",
     "communities",
 ];
-
-/// What is made of a route.
-#[derive(Clone, Copy)]
-pub enum Verdict {
-    /// It is rejected.
-    Reject,
-    /// It is accepted, and these of its lines differ from those that it came with.
-    Accept(&'static [&'static str]),
-}
-
-/// A policy IN, and what it makes of routes, each by the lines that differ from the plain route's.
-pub type Judged = (&'static str, &'static [(&'static [&'static str], Verdict)]);
 
 /// The line of `changes` that begins with the same word, or the line itself where none does.
 fn line_among(line: &'static str, changes: &[&'static str]) -> &'static str {
@@ -62,43 +48,4 @@ pub fn route_without(alloc: Global, place: usize) -> Result<String, Fail> {
         }
     }
     Ok(text)
-}
-
-/// The text of an outcome for the route with the lines `given`.
-fn outcome_text(alloc: Global, given: &[&'static str], verdict: Verdict) -> Result<String, Fail> {
-    match verdict {
-        Verdict::Reject => Ok(String::from_str(alloc, "reject\n")?),
-        Verdict::Accept(made) => {
-            let route = route_text(alloc, given, made)?;
-            Ok(format!(in alloc; "accept\n{route}")?)
-        }
-    }
-}
-
-/// The policy makes this of the route with the lines `given`.
-fn makes(
-    rt: &(impl Abort + AllocGlobal),
-    policy: &str,
-    given: &[&'static str],
-    verdict: Verdict,
-) -> Result<(), Fail> {
-    let route = route_text(rt.alloc(), given, &[])?;
-    let outcome = outcome_text(rt.alloc(), given, verdict)?;
-    let texts = judge_texts(policy, route.as_str());
-    shows(rt, &unfailing(JUDGE, &texts), (0, outcome.as_str(), ""))
-}
-
-/// The texts of a judge: the source, and the route.
-fn judge_texts<'a>(policy: &'a str, route: &'a str) -> [(&'a str, &'a str); 2] {
-    [("in.cfg", policy), ("r.txt", route)]
-}
-
-/// Each policy makes of its routes what is said.
-pub fn judged(rt: &(impl Abort + AllocGlobal), rows: &[Judged]) -> Result<(), Fail> {
-    for (policy, routes) in rows {
-        for (given, verdict) in *routes {
-            makes(rt, policy, given, *verdict)?;
-        }
-    }
-    Ok(())
 }

@@ -104,7 +104,10 @@ pub fn shows(
     let found = run_to_its_end(rt.alloc(), asked)?;
     let (status, out, line) = want;
     let err = with_line_end(rt.alloc(), line)?;
-    let source = asked.texts.first().map_or("", |text| text.1);
+    let source = match asked.texts {
+        [(_, text), ..] => text,
+        [] => "",
+    };
     let words = asked.words;
     assert_eq!(rt; found.err.as_str(), err.as_str(), "{words}\n{source}");
     assert_eq!(rt; found.out.as_str(), out, "{words}\n{source}");

@@ -1,31 +1,26 @@
 // A test of what an earlier entry that goes on has set.
-use super::refused_beside_taken;
-use std::test::Fail;
+use super::Row;
 
-#[test]
-fn unsettled_test(rt: HostRuntime) -> Result<(), Fail> {
-    refused_beside_taken(
-        &rt,
-        &[
-            (
-                "\
+pub const ROWS: &[Row] = &[
+    (
+        "\
 route-map IN permit 10
  set metric 5
  continue
 route-map IN permit 20
  match metric 5
 ",
-                "in.cfg:5:2: outside: unsettled-test",
-                "\
+        "in.cfg:5:2: outside: unsettled-test",
+        "\
 route-map IN permit 10
  set metric 5
  continue
 route-map IN permit 20
  set local-preference 5
 ",
-            ),
-            (
-                "\
+    ),
+    (
+        "\
 route-map IN permit 10
  continue 30
  set metric 5
@@ -33,33 +28,33 @@ route-map IN permit 20
 route-map IN permit 30
  match metric 5
 ",
-                "in.cfg:6:2: outside: unsettled-test",
-                "\
+        "in.cfg:6:2: outside: unsettled-test",
+        "\
 route-map IN permit 10
  match metric 5
  set metric 5
  continue
 ",
-            ),
-            (
-                "\
+    ),
+    (
+        "\
 route-map IN permit 20
  match metric 5
 route-map IN permit 10
  set metric 5
  continue
 ",
-                "in.cfg:2:2: outside: unsettled-test",
-                "\
+        "in.cfg:2:2: outside: unsettled-test",
+        "\
 route-map IN permit 20
  match metric 5
 route-map IN permit 30
  set metric 5
  continue
 ",
-            ),
-            (
-                "\
+    ),
+    (
+        "\
 ip prefix-list PL seq 5 permit 10.0.0.0/8
 route-map IN permit 10
  set ip next-hop 1.1.1.1
@@ -67,8 +62,8 @@ route-map IN permit 10
 route-map IN permit 20
  match ip next-hop prefix-list PL
 ",
-                "in.cfg:6:2: outside: unsettled-test",
-                "\
+        "in.cfg:6:2: outside: unsettled-test",
+        "\
 ip prefix-list PL seq 5 permit 10.0.0.0/8
 route-map IN permit 10
  set ip next-hop 1.1.1.1
@@ -76,9 +71,9 @@ route-map IN permit 10
 route-map IN permit 20
  match ip address prefix-list PL
 ",
-            ),
-            (
-                "\
+    ),
+    (
+        "\
 ip community-list standard C permit 1:1
 route-map IN permit 10
  set community none
@@ -86,8 +81,8 @@ route-map IN permit 10
 route-map IN permit 20
  match community C
 ",
-                "in.cfg:6:2: outside: unsettled-test",
-                "\
+        "in.cfg:6:2: outside: unsettled-test",
+        "\
 ip community-list standard C permit 1:1
 route-map IN permit 10
  set metric 5
@@ -95,9 +90,9 @@ route-map IN permit 10
 route-map IN permit 20
  match community C
 ",
-            ),
-            (
-                "\
+    ),
+    (
+        "\
 ip community-list standard C permit 1:1
 route-map IN permit 10
  set comm-list C delete
@@ -105,8 +100,8 @@ route-map IN permit 10
 route-map IN permit 20
  match community C
 ",
-                "in.cfg:6:2: outside: unsettled-test",
-                "\
+        "in.cfg:6:2: outside: unsettled-test",
+        "\
 ip community-list standard C permit 1:1
 route-map IN permit 10
  set comm-list C delete
@@ -116,9 +111,9 @@ route-map IN permit 20
 route-map IN permit 30
  match community C
 ",
-            ),
-            (
-                "\
+    ),
+    (
+        "\
 ip as-path access-list 10 permit _65001_
 route-map IN permit 10
  set as-path prepend 65000
@@ -126,8 +121,8 @@ route-map IN permit 10
 route-map IN permit 20
  match as-path 10
 ",
-                "in.cfg:6:2: outside: unsettled-test",
-                "\
+        "in.cfg:6:2: outside: unsettled-test",
+        "\
 ip as-path access-list 10 permit _65001_
 route-map IN permit 10
  set metric 5
@@ -135,24 +130,22 @@ route-map IN permit 10
 route-map IN permit 20
  match as-path 10
 ",
-            ),
-            (
-                "\
+    ),
+    (
+        "\
 route-map IN permit 10
  set metric 5
  continue
 route-map IN permit 20
  match metric 5
 ",
-                "in.cfg:5:2: outside: unsettled-test",
-                "\
+        "in.cfg:5:2: outside: unsettled-test",
+        "\
 route-map OUT permit 10
  set metric 5
  continue
 route-map IN permit 20
  match metric 5
 ",
-            ),
-        ],
-    )
-}
+    ),
+];

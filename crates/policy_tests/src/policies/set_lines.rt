@@ -1,9 +1,8 @@
 // What the lines that set do: deletion first, whatever their order.
-use crate::routes::Verdict::{Accept, Reject};
-use crate::routes::{Judged, judged};
-use std::test::Fail;
+use super::Policy;
+use super::Verdict::{Accept, Reject};
 
-const POLICIES: &[Judged] = &[
+pub const POLICIES: &[Policy] = &[
     (
         "\
 route-map IN permit 10
@@ -148,8 +147,3 @@ route-map IN permit 10
         )],
     ),
 ];
-
-#[test]
-fn set_lines(rt: HostRuntime) -> Result<(), Fail> {
-    judged(&rt, POLICIES)
-}

@@ -1,9 +1,8 @@
 // Community lists: the first entry that holds decides.
-use crate::routes::Verdict::{Accept, Reject};
-use crate::routes::{Judged, judged};
-use std::test::Fail;
+use super::Policy;
+use super::Verdict::{Accept, Reject};
 
-const POLICIES: &[Judged] = &[
+pub const POLICIES: &[Policy] = &[
     (
         "\
 ip community-list standard C deny 65001:1 65001:2
@@ -84,8 +83,3 @@ route-map IN permit 10
         ],
     ),
 ];
-
-#[test]
-fn community_lists(rt: HostRuntime) -> Result<(), Fail> {
-    judged(&rt, POLICIES)
-}

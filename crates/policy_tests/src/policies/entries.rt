@@ -1,9 +1,8 @@
 // Entries of a route-map: their order, which one ends a run, and what `continue` does.
-use crate::routes::Verdict::{Accept, Reject};
-use crate::routes::{Judged, judged};
-use std::test::Fail;
+use super::Policy;
+use super::Verdict::{Accept, Reject};
 
-const POLICIES: &[Judged] = &[
+pub const POLICIES: &[Policy] = &[
     (
         "\
 ip prefix-list A seq 5 permit 10.0.0.0/8
@@ -89,8 +88,3 @@ ip as-path access-list 9 permit ^65001$
         ],
     ),
 ];
-
-#[test]
-fn entries(rt: HostRuntime) -> Result<(), Fail> {
-    judged(&rt, POLICIES)
-}

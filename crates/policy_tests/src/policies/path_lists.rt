@@ -1,9 +1,8 @@
 // AS-path lists: the first entry whose pattern is found decides.
-use crate::routes::Verdict::{Accept, Reject};
-use crate::routes::{Judged, judged};
-use std::test::Fail;
+use super::Policy;
+use super::Verdict::{Accept, Reject};
 
-const POLICIES: &[Judged] = &[
+pub const POLICIES: &[Policy] = &[
     (
         "\
 ip as-path access-list 1 permit ^65001_.*_65002$
@@ -87,8 +86,3 @@ route-map IN permit 10
         ],
     ),
 ];
-
-#[test]
-fn path_lists(rt: HostRuntime) -> Result<(), Fail> {
-    judged(&rt, POLICIES)
-}

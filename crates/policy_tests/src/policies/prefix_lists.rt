@@ -1,9 +1,8 @@
 // Prefix lists: which entry decides, and which prefixes and next hops a range holds.
-use crate::routes::Verdict::{Accept, Reject};
-use crate::routes::{Judged, judged};
-use std::test::Fail;
+use super::Policy;
+use super::Verdict::{Accept, Reject};
 
-const POLICIES: &[Judged] = &[
+pub const POLICIES: &[Policy] = &[
     (
         "\
 ip prefix-list PL seq 5 deny 10.1.0.0/16
@@ -135,8 +134,3 @@ route-map IN permit 10
         &[(&["next-hop 192.0.2.0"], Reject)],
     ),
 ];
-
-#[test]
-fn prefix_lists(rt: HostRuntime) -> Result<(), Fail> {
-    judged(&rt, POLICIES)
-}
