@@ -10,7 +10,7 @@ use Rattle.std.proofs.lemmas.Map.Views.{any-filter_same}
 use Rattle.aspath_text.specs.Items.{in_range}
 use Rattle.aspath_text.specs.MergedRanges.{AreRising, AreInOrder, has_number, is_wide, touches, both_ranges, joined_from, joined}
 use Rattle.aspath_text.specs.declared.items.NumberRange.{NumberRange}
-use Rattle.route_types.specs.declared.memory.Memory.{Memory}
+use Rattle.text_words.specs.declared.memory.Memory.{Memory}
 
 -- ---- the order
 

@@ -1,8 +1,11 @@
 ghost use Rattle.std.specs.Prelude.{◌≡◌, ℕ, List, Some};
+ghost use Rattle.std.specs.Bool.{Decides};
+ghost use Rattle.aspath_text.specs.Finds.{finds_in};
 ghost use Rattle.aspath_text.specs.IosGrammar.{SpellsPattern};
 ghost use Rattle.aspath_text.specs.IosRead.{ios_pattern_in};
 ghost use Rattle.aspath_text.specs.JunosGrammar.{SpellsJunos};
 ghost use Rattle.aspath_text.specs.JunosRead.{junos_pattern_in};
+ghost use Rattle.aspath_text.specs.Search.{Found};
 ghost use Rattle.aspath_text.specs.Shape.{IsShaped};
 ghost use Rattle.aspath_text.specs.declared.items.TokenPattern.{TokenPattern};
 ghost use Rattle.aspath_text.specs.declared.pattern.IosBranch.{IosBranch};
@@ -26,4 +29,10 @@ pub fn junos_patterns()
     ensures found { (text : List ℕ) (p : TokenPattern) → junos_pattern_in text ≡ Some p → SpellsJunos text p }
     // and a pattern that the text spells is found.
     ensures only { (text : List ℕ) (p : TokenPattern) → SpellsJunos text p → junos_pattern_in text ≡ Some p }
+{}
+
+/// The law of the function that searches; its clause is all that it does. For every pattern and path the
+/// function answers true exactly where the pattern is found in the text of the path.
+pub fn path_searches()
+    ensures { (bs : List IosBranch) (path : List ℕ) → Decides (finds_in bs path) (Found bs path) }
 {}

@@ -8,9 +8,9 @@
 //! the other files are ways to them.
 //!
 //! That a text spells what is found in it, and nothing else, is the law of the functions `ios_patterns` and
-//! `junos_patterns`. Besides, crates above may cite these laws of `proofs/`: `FindsFound`, that `finds_in`
-//! is true exactly where the pattern is found; `FoundTaken`, that a pattern is found exactly where the
-//! numbers of the path are taken; `RowsFind`, that rows over the path tell the same.
+//! `junos_patterns`; that `finds_in` is true exactly where a pattern is found is that of `path_searches`.
+//! Besides, crates above may cite these laws of `proofs/`: `FoundTaken`, that a pattern is found exactly
+//! where the numbers of the path are taken; `RowsFind`, that rows over the path tell the same.
 #![tactic(auto)]
 
 mod counts;
@@ -41,26 +41,9 @@ pub use ios_read::read_ios_pattern;
 pub use items::{NumberRange, NumberSet, TokenBranch, TokenItem, TokenPattern};
 pub use junos_print::print_junos;
 pub use junos_read::read_junos_pattern;
-pub use laws::{ios_patterns, junos_patterns};
+pub use laws::{ios_patterns, junos_patterns, path_searches};
 pub use pattern::{
     DigitSet, DigitWord, IosBranch, IosPattern, Mark, PathPieces, Piece, PieceSet, Repeat, Tail,
 };
 pub use rows::{finds, matches};
 pub use token_form::tokens;
-
-#[cfg(test)]
-mod ios_print_tests;
-#[cfg(test)]
-mod ios_read_tests;
-#[cfg(test)]
-mod junos_print_tests;
-#[cfg(test)]
-mod junos_read_tests;
-#[cfg(test)]
-mod range_words_tests;
-#[cfg(test)]
-mod rows_tests;
-#[cfg(test)]
-mod tests;
-#[cfg(test)]
-mod token_form_tests;

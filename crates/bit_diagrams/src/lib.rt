@@ -15,6 +15,3 @@ mod waiting;
 pub use bit_list::Bits;
 pub use parts::{Id, Memory, Node};
 pub use store::Diagrams;
-
-#[cfg(test)]
-mod tests;

@@ -1,8 +1,11 @@
 -- Worked examples that the checker computes.
 use Rattle.std.proofs.Common.{◌≡◌, refl, List, [], ◌∷◌, ◌+◌, ◌*◌, ℕ, Bool, true, false}
-use Rattle.route_types.specs.Community.{RectParts}
+use Rattle.route_types.specs.Community.{RectParts, sides, set_after}
 use Rattle.route_types.specs.declared.community.Community.{Community}
+use Rattle.community_sets.specs.Cuts.{meet, lies_in, cut_of}
 use Rattle.community_sets.specs.Tests.{list_answers, same_set}
+use Rattle.community_sets.specs.declared.change.Cut.{Cut}
+use Rattle.community_sets.specs.declared.change.Cut.TheVariants.{Never, Whole, Part}
 use Rattle.community_sets.specs.declared.list.CommEntry.{CommEntry}
 use Rattle.community_sets.specs.declared.list.CommTest.TheVariants.{AllOf, Exactly}
 
@@ -54,3 +57,20 @@ reordered = refl
 exactly_fewer : list_answers (record { permit = true; test = Exactly (of 65001 1 ∷ []) } ∷ []) (of 65001 1 ∷ of 65001 2 ∷ []) ≡ false
 unfolding list_answers
 exactly_fewer = refl
+
+-- all of 65001 removed and 65001:1 added, and then 65001:1 removed
+joined : set_after (row 65001 ∷ point 65001 1 ∷ []) [] (of 65001 1 ∷ of 65001 5 ∷ of 65002 1 ∷ []) ≡ of 65002 1 ∷ []
+joined = refl
+
+-- how the second rectangle cuts the first
+abbrev cut_by : RectParts → RectParts → Cut
+cut_by r s = cut_of (meet (sides r) (sides s)) (lies_in (sides r) (sides s))
+
+cut_in_part : cut_by (row 65001) (point 65001 1) ≡ Part
+cut_in_part = refl
+
+cut_whole : cut_by (point 65001 1) (row 65001) ≡ Whole
+cut_whole = refl
+
+not_cut : cut_by (point 65002 1) (row 65001) ≡ Never
+not_cut = refl

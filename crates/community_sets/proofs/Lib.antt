@@ -1,1 +1,4 @@
 mod Examples
+pub mod Changes
+pub mod CutLaws
+pub mod Sides

@@ -1,17 +1,14 @@
 -- A draft behind lines makes the route that the lines make of the draft's route.
-use Rattle.std.proofs.Common.{◌≡◌, refl, sym, ap, ◌∙◌, ℕ, ◌<◌, arith, Bool, true, false, cond, ◌&&◌, ◌||◌, not, List, [], ◌∷◌, ◌++◌}
-use Rattle.std.specs.Prelude.{◌==◌, filter, reverse, bytes_eq}
-use Rattle.std.specs.List.{list_any}
+use Rattle.std.proofs.Common.{◌≡◌, refl, sym, ap, ◌∙◌, ℕ, Bool, true, false, not, List, [], ◌∷◌, ◌++◌}
+use Rattle.std.specs.Prelude.{filter, reverse, bytes_eq}
 use Rattle.std.proofs.lemmas.List.{reverse-append, reverse-reverse}
-use Rattle.std.proofs.lemmas.Bool.{eqb-true}
-use Rattle.std.proofs.lemmas.List.Folds.{list_any-append}
 use Rattle.route_types.specs.Address.{PrefixParts}
-use Rattle.route_types.specs.Community.{set_of, IsAscending}
+use Rattle.route_types.specs.Community.{number, set_of, IsAscending}
 use Rattle.route_types.specs.Route.{RouteParts}
 use Rattle.route_types.specs.declared.community.Community.{Community}
 use Rattle.route_types.specs.declared.route.NextHop.{NextHop}
 use Rattle.route_types.specs.declared.route.Origin.{Origin}
-use Rattle.route_types.proofs.Sets.{set_of_ascending, has-set_of, ascending_same}
+use Rattle.route_types.proofs.Sets.{same_community, set_itself, set_added, set_kept}
 use Rattle.community_sets.specs.Tests.{test_holds, list_answers}
 use Rattle.community_sets.specs.declared.list.CommEntry.{CommEntry}
 use Rattle.ios_reader.specs.Entries.{Entry}
@@ -27,91 +24,6 @@ use Rattle.ios_meaning.specs.Drafts.{entries_named, entry_named, entries_at, ans
 use Rattle.ios_meaning.specs.declared.draft.Draft.{Draft}
 use Rattle.ios_meaning.proofs.Alike.{filter_alike}
 use Rattle.ios_meaning.proofs.Maps.{Lists}
-
--- ---- sets
-
-abbrev has : ℕ → List Community → Bool
-has n cs = list_any (λ c. c.0 == n) cs
-
--- a list in rising order is its set
-pub set_of_itself : (cs : List Community) → IsAscending cs → set_of cs ≡ cs
-set_of_itself cs h = ascending_same (set_of cs) cs (set_of_ascending cs) h (λ n. has-set_of n cs)
-
-set_of_added : (cs more : List Community) → set_of (cs ++ more) ≡ set_of (set_of cs ++ more)
-set_of_added cs more =
-    ascending_same (set_of (cs ++ more)) (set_of (set_of cs ++ more)) (set_of_ascending (cs ++ more)) (set_of_ascending (set_of cs ++ more))
-    (λ n. has-set_of n (cs ++ more) ∙ list_any-append (λ c. c.0 == n) cs more ∙ ap (λ (b : Bool). b || has n more) (sym (has-set_of n cs)) ∙ sym (list_any-append (λ c. c.0 == n) (set_of cs) more) ∙ sym (has-set_of n (set_of cs ++ more)))
-
--- the first member, if there is one, is above the number
-abbrev IsBelowFirst : ℕ → List Community → Type 0
-IsBelowFirst n [] = Unit {0}
-IsBelowFirst n (c ∷ cs) = n < c.0
-
-ascending_from : (c : Community) (cs : List Community) → IsBelowFirst c.0 cs → IsAscending cs → IsAscending (c ∷ cs)
-ascending_from c [] b h = tt
-ascending_from c (d ∷ ds) b h = (b, h)
-
-ascending_behind : (c : Community) (cs : List Community) → IsAscending (c ∷ cs) → IsAscending cs
-ascending_behind c [] h = tt
-ascending_behind c (d ∷ ds) h = h.1
-
-below_behind : (n : ℕ) (c : Community) (cs : List Community) → n < c.0 → IsAscending (c ∷ cs) → IsBelowFirst n cs
-below_behind n c [] l h = tt
-below_behind n c (d ∷ ds) l h = omega (arith, h.0)
-
-below_by : (n : ℕ) (c : Community) (cs : List Community) (b : Bool) → n < c.0 → IsBelowFirst n cs → IsBelowFirst n (cond b (c ∷ cs) cs)
-below_by n c cs true l h = l
-below_by n c cs false l h = h
-
-below_kept : (p : Community → Bool) (n : ℕ) (cs : List Community) → IsBelowFirst n cs → IsAscending cs → IsBelowFirst n (filter p cs)
-below_kept p n [] b h = tt
-below_kept p n (c ∷ cs) b h = below_by n c (filter p cs) (p c) b (below_kept p n cs (below_behind n c cs b h) (ascending_behind c cs h))
-
-ascending_by : (c : Community) (cs : List Community) (b : Bool) → IsBelowFirst c.0 cs → IsAscending cs → IsAscending (cond b (c ∷ cs) cs)
-ascending_by c cs true b h = ascending_from c cs b h
-ascending_by c cs false b h = h
-
-first_below : (c : Community) (cs : List Community) → IsAscending (c ∷ cs) → IsBelowFirst c.0 cs
-first_below c [] h = tt
-first_below c (d ∷ ds) h = h.0
-
-ascending_kept : (p : Community → Bool) (cs : List Community) → IsAscending cs → IsAscending (filter p cs)
-ascending_kept p [] h = tt
-ascending_kept p (c ∷ cs) h =
-    let behind = ascending_behind c cs h in
-    ascending_by c (filter p cs) (p c) (below_kept p c.0 cs (first_below c cs h) behind) (ascending_kept p cs behind)
-
-abbrev community : ℕ → Community
-community n = record { 0 = n }
-
-has_cond : (n : ℕ) (c : Community) (cs : List Community) (b : Bool) → has n (cond b (c ∷ cs) cs) ≡ cond b ((c.0 == n) || has n cs) (has n cs)
-has_cond n c cs true = refl
-has_cond n c cs false = refl
-
--- s: c passes; t: it is the one looked for; m: that one passes; h, f: it stands behind c, before and after
-kept_bools : (s t m h f : Bool) → (t ≡ true → m ≡ s) → f ≡ (m && h) → cond s (t || f) f ≡ (m && (t || h))
-kept_bools true true true h f same e = refl
-kept_bools true true false h f same e = absurd (let x = same refl in cc)
-kept_bools true false m h f same e = e
-kept_bools false true true h f same e = absurd (let x = same refl in cc)
-kept_bools false true false h f same e = e
-kept_bools false false m h f same e = e
-
-passes_alike : (p : Community → Bool) (n : ℕ) (c : Community) → (c.0 == n) ≡ true → p (community n) ≡ p c
-passes_alike p n c e = ap (λ (k : ℕ). p (community k)) (sym (eqb-true c.0 n e))
-
-has_kept : (p : Community → Bool) (n : ℕ) (cs : List Community) → has n (filter p cs) ≡ (p (community n) && has n cs)
-has_kept p n [] = none (p (community n))
-  where
-    none : (b : Bool) → false ≡ (b && false)
-    none true = refl
-    none false = refl
-has_kept p n (c ∷ cs) = has_cond n c (filter p cs) (p c) ∙ kept_bools (p c) (c.0 == n) (p (community n)) (has n cs) (has n (filter p cs)) (passes_alike p n c) (has_kept p n cs)
-
-set_of_kept : (p : Community → Bool) (cs : List Community) → set_of (filter p cs) ≡ filter p (set_of cs)
-set_of_kept p cs =
-    ascending_same (set_of (filter p cs)) (filter p (set_of cs)) (set_of_ascending (filter p cs)) (ascending_kept p (set_of cs) (set_of_ascending cs))
-    (λ n. has-set_of n (filter p cs) ∙ has_kept p n cs ∙ ap (λ (b : Bool). p (community n) && b) (sym (has-set_of n cs)) ∙ sym (has_kept p n (set_of cs)))
 
 -- ---- lists
 
@@ -143,7 +55,7 @@ abbrev Right : Removes → List IosItem → Type 0
 Right removes all = (list : List ℕ) (c : Community) → removes list c ≡ list_answers (community_list false list all) (c ∷ [])
 
 set_of_base : (b : Bool) (cs more : List Community) → set_of (elim b [ true ↦ cs | false ↦ [] ] ++ more) ≡ set_of (elim b [ true ↦ set_of cs | false ↦ [] ] ++ more)
-set_of_base true cs more = set_of_added cs more
+set_of_base true cs more = set_added number same_community cs more
 set_of_base false cs more = refl
 
 by_line : (removes : Removes) (all : List IosItem) → Right removes all → (p : PrefixParts) (l : MapLine) (d : Draft) → route_of p (draft_by removes l d) ≡ set_by all l (route_of p d)
@@ -162,7 +74,7 @@ by_line removes all right p (SetNextHop a) d = refl
 by_line removes all right p (SetCommunity s) d = ap (λ (cs : List Community). record (route_of p d) { communities = cs }) (set_of_base s.additive d.communities s.communities)
 by_line removes all right p (DeleteCommunities list) d =
     ap (λ (cs : List Community). record (route_of p d) { communities = cs })
-    (set_of_kept (λ c. not (removes list c)) d.communities
+    (set_kept number same_community (λ c. not (removes list c)) d.communities
     ∙ filter_alike (λ c. not (removes list c)) (λ c. not (list_answers (community_list false list all) (c ∷ []))) (λ c. ap not (right list c)) (set_of d.communities))
 by_line removes all right p (Continue s) d = refl
 by_line removes all right p Description d = refl
@@ -188,7 +100,7 @@ pub drafted : (r : RouteParts) (hop : NextHop) (origin : Origin) (preference med
     → route_of r.prefix (record { next_hop = hop; path = path; origin = origin; local_preference = preference; med = med; weight = weight; communities = cs }) ≡ r
 drafted r hop origin preference med weight path cs h a b c d e f g =
     let back : reverse path ≡ r.path = ap (λ (ns : List ℕ). reverse ns) f ∙ reverse-reverse r.path in
-    let set : set_of cs ≡ r.communities = ap (λ (xs : List Community). set_of xs) g ∙ set_of_itself r.communities h in
+    let set : set_of cs ≡ r.communities = ap (λ (xs : List Community). set_of xs) g ∙ set_itself number same_community r.communities h in
     simp (a, b, c, d, e, back, set) refl
 
 -- the route of the draft behind entries is what the entries make of the route

@@ -10,6 +10,7 @@ use Rattle.route_types.specs.declared.route.NextHop.TheVariants.{Own}
 use Rattle.route_types.specs.declared.route.Origin.TheVariants.{Igp}
 use Rattle.route_types.specs.declared.route.Outcome.TheVariants.{Reject, Accept}
 use Rattle.text_words.specs.IosCut.{ios_cut, words_at}
+use Rattle.policy_text.specs.Causes.{first_cause, first_fault_from}
 use Rattle.policy_text.specs.Phrases.{after, each}
 use Rattle.ios_tree.specs.Forms.{prefix_list_in, community_list_in, map_header_in, match_prefix_in, match_next_hop_in, match_community_in, match_path_in, match_metric_in, set_local_preference_in, set_metric_in, set_weight_in, set_prepend_in, set_origin_in, set_next_hop_in, set_community_in, delete_communities_in, continue_in, description_in, match_line_in, set_value_in, set_list_in, line_in}
 use Rattle.ios_tree.specs.Tree.{ios_tree, items_of, form_of, numbered_from}
@@ -39,7 +40,7 @@ abbrev route : ℕ → ℕ → RouteParts
 route bits length = record { prefix = record { address = record { family = V4; bits = bits }; length = length }; next_hop = Own; path = 65001 ∷ []; origin = Igp; local_preference = 100; med = 0; weight = 0; communities = [] }
 
 sound : first_fault (codes "M") (ios_tree past_deny) ≡ None
-unfolding first_fault_within ios_tree ios_cut items_of numbered_from form_of words_at lines_at after each prefix_list_in community_list_in map_header_in match_prefix_in match_next_hop_in match_community_in match_path_in match_metric_in set_local_preference_in set_metric_in set_weight_in set_prepend_in set_origin_in set_next_hop_in set_community_in delete_communities_in continue_in description_in match_line_in set_value_in set_list_in line_in number_in prefix_in parts_at address_in community_in
+unfolding first_fault_within first_fault_from first_cause ios_tree ios_cut items_of numbered_from form_of words_at lines_at after each prefix_list_in community_list_in map_header_in match_prefix_in match_next_hop_in match_community_in match_path_in match_metric_in set_local_preference_in set_metric_in set_weight_in set_prepend_in set_origin_in set_next_hop_in set_community_in delete_communities_in continue_in description_in match_line_in set_value_in set_list_in line_in number_in prefix_in parts_at address_in community_in
 sound = refl
 
 -- 10.0.0.0/8 is accepted with MED 50

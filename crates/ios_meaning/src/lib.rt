@@ -16,6 +16,3 @@ mod prefix_answers;
 mod reach;
 
 pub use judge::judge_ios;
-
-#[cfg(test)]
-mod tests;

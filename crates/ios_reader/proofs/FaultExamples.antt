@@ -1,10 +1,11 @@
 -- The first fault of small trees, which the checker computes: one for each cause, and path lists.
 use Rattle.std.proofs.Common.{◌≡◌, refl, List, [], ◌∷◌, ◌+◌, ℕ, Bool, true, false}
-use Rattle.std.specs.Prelude.{Some, None, Option, codes}
+use Rattle.std.specs.Prelude.{Some, None, Option, codes, map}
 use Rattle.text_words.specs.declared.statement.Span.{Span}
 use Rattle.policy_text.specs.declared.fault.Cause.{Cause}
 use Rattle.policy_text.specs.declared.fault.Cause.TheVariants.{UnknownForm, DefinedTwice, SequenceTwice, Undefined, SameKindTwice, BackwardContinue, DenyContinue, UnsettledTest, ExactExpanded}
 use Rattle.aspath_text.specs.declared.pattern.IosBranch.TheVariants.{EmptyPath}
+use Rattle.policy_text.specs.Causes.{first_cause, first_fault_from}
 use Rattle.ios_reader.specs.Profile.{first_fault, first_fault_within}
 use Rattle.ios_tree.specs.declared.item.IosForm.{IosForm}
 use Rattle.ios_tree.specs.declared.item.IosForm.TheVariants.{CommunityEntry, PathEntry, MapHeader, Line, Other}
@@ -49,61 +50,32 @@ has_path = MatchPath (record { lists = codes "10" ∷ [] })
 abbrev no_form : ItemSort → Option (List ℕ) → IosForm
 no_form sort name = Other (record { sort = sort; name = name })
 
--- the first fault of IN
-abbrev fault : List IosItem → Option (Span × Cause)
-fault items = first_fault (codes "IN") items
+-- a tree with the span and the cause of the first fault of IN
+abbrev Row : Type 0
+Row = List IosItem × Option (Span × Cause)
 
--- ---- one for each cause
+abbrev faults_are : List Row → Type 0
+faults_are rows = map (λ r. first_fault (codes "IN") r.0) rows ≡ map (λ r. r.1) rows
 
-unknown_form : fault (item 0 (header true 10) ∷ item 1 (no_form LineSort None) ∷ []) ≡ Some (span 1, UnknownForm)
-unfolding first_fault_within
-unknown_form = refl
+-- one for each cause
+a_row_a_cause : faults_are (
+    (item 0 (header true 10) ∷ item 1 (no_form LineSort None) ∷ [], Some (span 1, UnknownForm))
+    ∷ (item 0 (communities standard) ∷ item 1 (communities expanded) ∷ item 2 (header true 10) ∷ item 3 (Line (has_communities false)) ∷ [], Some (span 1, DefinedTwice))
+    ∷ (item 0 (header true 10) ∷ item 1 (header false 10) ∷ [], Some (span 1, SequenceTwice))
+    ∷ (item 0 (header true 10) ∷ item 1 (Line has_path) ∷ [], Some (span 1, Undefined))
+    ∷ (item 0 empty_path ∷ item 1 (header true 10) ∷ item 2 (Line has_path) ∷ item 3 (Line has_path) ∷ [], Some (span 3, SameKindTwice))
+    ∷ (item 0 (header true 10) ∷ item 1 (Line (Continue (Some 10))) ∷ [], Some (span 1, BackwardContinue))
+    ∷ (item 0 (header false 10) ∷ item 1 (Line (Continue None)) ∷ [], Some (span 1, DenyContinue))
+    ∷ (item 0 empty_path ∷ item 1 (header true 10) ∷ item 2 (Line (SetPrepend (65001 ∷ []))) ∷ item 3 (Line (Continue None)) ∷ item 4 (header true 20) ∷ item 5 (Line has_path) ∷ [], Some (span 5, UnsettledTest))
+    ∷ (item 0 (communities expanded) ∷ item 1 (header true 10) ∷ item 2 (Line (has_communities true)) ∷ [], Some (span 2, ExactExpanded)) ∷ [])
+unfolding first_fault_within first_fault_from first_cause
+a_row_a_cause = refl
 
-defined_twice : fault (item 0 (communities standard) ∷ item 1 (communities expanded) ∷ item 2 (header true 10) ∷ item 3 (Line (has_communities false)) ∷ []) ≡ Some (span 1, DefinedTwice)
-unfolding first_fault_within
-defined_twice = refl
-
-sequence_twice : fault (item 0 (header true 10) ∷ item 1 (header false 10) ∷ []) ≡ Some (span 1, SequenceTwice)
-unfolding first_fault_within
-sequence_twice = refl
-
-undefined : fault (item 0 (header true 10) ∷ item 1 (Line has_path) ∷ []) ≡ Some (span 1, Undefined)
-unfolding first_fault_within
-undefined = refl
-
-same_kind_twice : fault (item 0 (empty_path) ∷ item 1 (header true 10) ∷ item 2 (Line has_path) ∷ item 3 (Line has_path) ∷ []) ≡ Some (span 3, SameKindTwice)
-unfolding first_fault_within
-same_kind_twice = refl
-
-backward_continue : fault (item 0 (header true 10) ∷ item 1 (Line (Continue (Some 10))) ∷ []) ≡ Some (span 1, BackwardContinue)
-unfolding first_fault_within
-backward_continue = refl
-
-deny_continue : fault (item 0 (header false 10) ∷ item 1 (Line (Continue None)) ∷ []) ≡ Some (span 1, DenyContinue)
-unfolding first_fault_within
-deny_continue = refl
-
-unsettled_test : fault (item 0 empty_path ∷ item 1 (header true 10) ∷ item 2 (Line (SetPrepend (65001 ∷ []))) ∷ item 3 (Line (Continue None)) ∷ item 4 (header true 20) ∷ item 5 (Line has_path) ∷ []) ≡ Some (span 5, UnsettledTest)
-unfolding first_fault_within
-unsettled_test = refl
-
-exact_expanded : fault (item 0 (communities expanded) ∷ item 1 (header true 10) ∷ item 2 (Line (has_communities true)) ∷ []) ≡ Some (span 2, ExactExpanded)
-unfolding first_fault_within
-exact_expanded = refl
-
--- ---- path lists
-
--- an entry of no form is there, and its list is reached by the line that names it
-path_of_no_form : fault (item 0 (no_form PathList (Some (codes "10"))) ∷ item 1 (header true 10) ∷ item 2 (Line has_path) ∷ []) ≡ Some (span 0, UnknownForm)
-unfolding first_fault_within
-path_of_no_form = refl
-
--- a list that no line names isn't reached
-path_not_reached : fault (item 0 (no_form PathList (Some (codes "10"))) ∷ item 1 (header true 10) ∷ []) ≡ None
-unfolding first_fault_within
-path_not_reached = refl
-
--- a path test is settled where another attribute is set
-path_settled : fault (item 0 empty_path ∷ item 1 (header true 10) ∷ item 2 (Line (SetMetric 5)) ∷ item 3 (Line (Continue None)) ∷ item 4 (header true 20) ∷ item 5 (Line has_path) ∷ []) ≡ None
-unfolding first_fault_within
-path_settled = refl
+-- an entry of no form is there, and its list is reached by the line that names it; a list that no line names isn't
+-- reached; a path test is settled where another attribute is set
+path_lists : faults_are (
+    (item 0 (no_form PathList (Some (codes "10"))) ∷ item 1 (header true 10) ∷ item 2 (Line has_path) ∷ [], Some (span 0, UnknownForm))
+    ∷ (item 0 (no_form PathList (Some (codes "10"))) ∷ item 1 (header true 10) ∷ [], None)
+    ∷ (item 0 empty_path ∷ item 1 (header true 10) ∷ item 2 (Line (SetMetric 5)) ∷ item 3 (Line (Continue None)) ∷ item 4 (header true 20) ∷ item 5 (Line has_path) ∷ [], None) ∷ [])
+unfolding first_fault_within first_fault_from first_cause
+path_lists = refl

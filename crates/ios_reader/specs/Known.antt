@@ -1,40 +1,42 @@
--- What the check keeps of the whole tree, as facts.
-use Rattle.std.specs.Prelude.{◌≡◌, ℕ, List}
-use Rattle.route_types.specs.declared.address.Family.{Family}
-use Rattle.ios_tree.specs.declared.item.IosItem.{IosItem}
-use Rattle.ios_reader.specs.Seen.{has_name, has_entry, has_list}
-use Rattle.ios_reader.specs.Settings.{is_above}
-use Rattle.ios_reader.specs.Facts.{Facts, facts_of}
+-- What the check keeps of the tree and of the items before, as the tests that the rules look at.
+use Rattle.std.specs.Prelude.{ℕ, Bool, false, nat_lt, List, Option, Some, None, option_map, get_or}
+use Rattle.policy_text.specs.NameSets.{has_name}
+use denote.Ref.{Bor}
+use Rattle.std.specs.BTreeSet.{BTreeSet}
+use Rattle.ios_reader.specs.Items.{sort_code}
+use Rattle.ios_reader.specs.Facts.{Facts, Before}
+use Rattle.ios_reader.specs.declared.lines.Setting.{Setting}
+use Rattle.ios_reader.specs.declared.lines.Setting.TheVariants.{Med, Path, NextHop, Communities}
 use Rattle.ios_reader.specs.declared.known.Known.{Known}
+use Rattle.ios_reader.specs.declared.place.Place.{Place}
+
+-- the number is above the least one
+abbrev pub is_above : Option ℕ → ℕ → Bool
+is_above None n = false
+is_above (Some least) n = nat_lt least n
+
+-- the least number of an entry that continues and sets this
+abbrev pub least_of : Known → Setting → Option ℕ
+least_of k Med = k.med
+least_of k Path = k.path
+least_of k NextHop = k.next_hop
+least_of k Communities = k.communities
 
 -- the facts that the sets and the least numbers tell
-abbrev pub known_facts : List ℕ → Known → Facts
-known_facts name k = record {
-  prefix_list = λ family list. has_list k.prefix_lists family list;
-  community_list = λ list. has_name k.community_lists list;
-  path_list = λ list. has_name k.path_lists list;
-  names_prefix = λ family list. has_list k.prefix_names family list;
-  names_community = λ list. has_name k.community_names list;
-  names_path = λ list. has_name k.path_names list;
-  is_expanded = λ list. has_name k.expanded list;
-  is_number = λ n. has_entry k.headers name n;
-  med = λ n. is_above k.med n;
-  path = λ n. is_above k.path n;
-  next_hop = λ n. is_above k.next_hop n;
-  communities = λ n. is_above k.communities n;
+abbrev pub known_facts : Known → Facts
+known_facts k = record {
+  policy = k.policy.now;
+  defined = λ sort q. has_name k.defined q (sort_code sort) 0;
+  named = λ sort q. has_name k.named q (sort_code sort) 0;
+  marked = λ sort q n. has_name k.marked q (sort_code sort) n;
+  set_below = λ setting n. is_above (least_of k setting) n;
 }
 
--- the facts are those of the tree
-pub record Knows (name : List ℕ) (all : List IosItem) (facts : Facts) : Type 0 where
-  pub prefix_list_is : (f : Family) (q : List ℕ) → facts.prefix_list f q ≡ (facts_of name all).prefix_list f q
-  pub community_list_is : (q : List ℕ) → facts.community_list q ≡ (facts_of name all).community_list q
-  pub path_list_is : (q : List ℕ) → facts.path_list q ≡ (facts_of name all).path_list q
-  pub names_prefix_is : (f : Family) (q : List ℕ) → facts.names_prefix f q ≡ (facts_of name all).names_prefix f q
-  pub names_community_is : (q : List ℕ) → facts.names_community q ≡ (facts_of name all).names_community q
-  pub names_path_is : (q : List ℕ) → facts.names_path q ≡ (facts_of name all).names_path q
-  pub is_expanded_is : (q : List ℕ) → facts.is_expanded q ≡ (facts_of name all).is_expanded q
-  pub is_number_is : (n : ℕ) → facts.is_number n ≡ (facts_of name all).is_number n
-  pub med_is : (n : ℕ) → facts.med n ≡ (facts_of name all).med n
-  pub path_is : (n : ℕ) → facts.path n ≡ (facts_of name all).path n
-  pub next_hop_is : (n : ℕ) → facts.next_hop n ≡ (facts_of name all).next_hop n
-  pub communities_is : (n : ℕ) → facts.communities n ≡ (facts_of name all).communities n
+-- what stands before, as a place and a set of marks tell it
+abbrev pub told : Place → BTreeSet (Bor (List ℕ) × ℕ × ℕ) → Before
+told place marks = record {
+  inside = place.inside;
+  header = option_map (λ h. h.now) place.header;
+  kinds = λ kind. get_or place.kinds kind false;
+  marked = λ sort q n. has_name marks q (sort_code sort) n;
+}

@@ -1,12 +1,8 @@
 pub mod Entries
+pub mod Items
 pub mod Lines
-pub mod FirstForms
+pub mod Facts
 pub mod Profile
 pub mod Faults
-pub mod Seen
-pub mod FormSorts
-pub mod Facts
 pub mod Known
-pub mod Given
-pub mod Settings
 pub mod Walk

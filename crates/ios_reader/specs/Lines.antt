@@ -1,27 +1,29 @@
 -- What the lines of an entry name, test and set.
-use Rattle.std.specs.Prelude.{ℕ, Bool, true, false, ◌&&◌, List, Option, None, bytes_eq}
+use Rattle.std.specs.Prelude.{ℕ, Bool, true, false, ◌&&◌, ◌==◌, List, [], ◌∷◌, Option, Some, None, bytes_eq}
 use Rattle.std.specs.List.{list_any}
-use Rattle.route_types.specs.Address.{same_family}
-use Rattle.route_types.specs.declared.address.Family.{Family}
+use Rattle.ios_tree.specs.declared.item.ItemSort.{ItemSort}
+use Rattle.ios_tree.specs.declared.item.ItemSort.TheVariants.{PrefixList, CommunityList, PathList}
+use Rattle.ios_tree.specs.declared.item.ItemSort.TheVariants.{Line as LineSort}
 use Rattle.ios_tree.specs.declared.item.MapLine.{MapLine}
 use Rattle.ios_tree.specs.declared.item.MapLine.TheVariants.{MatchPrefix, MatchNextHop, MatchCommunity, MatchPath, MatchMetric, SetLocalPreference, SetMetric, SetWeight, SetPrepend, SetOrigin, SetNextHop, SetCommunity, DeleteCommunities, Continue, Description}
+use Rattle.ios_reader.specs.Items.{sort_code}
+use Rattle.ios_reader.specs.declared.lines.Setting.{Setting}
+use Rattle.ios_reader.specs.declared.lines.Setting.TheVariants.{Med, Path, NextHop, Communities}
+use Rattle.ios_reader.specs.declared.lines.Effect.{Effect}
+use Rattle.ios_reader.specs.declared.lines.Effect.TheVariants.{Continues, Sets}
 
--- the line names this prefix list of the family
-abbrev pub names_prefix_list : Family → List ℕ → MapLine → Bool
-names_prefix_list family list (MatchPrefix m) = same_family family m.family && list_any (bytes_eq list) m.lists
-names_prefix_list family list (MatchNextHop m) = same_family family m.family && list_any (bytes_eq list) m.lists
-names_prefix_list family list _ = false
+-- the lists that a line names, and their sort
+abbrev pub lists_named : MapLine → ItemSort × List (List ℕ)
+lists_named (MatchPrefix m) = (PrefixList m.family, m.lists)
+lists_named (MatchNextHop m) = (PrefixList m.family, m.lists)
+lists_named (MatchCommunity m) = (CommunityList, m.lists)
+lists_named (MatchPath m) = (PathList, m.lists)
+lists_named (DeleteCommunities list) = (CommunityList, list ∷ [])
+lists_named _ = (LineSort, [])
 
--- the line names this community list
-abbrev pub names_community_list : List ℕ → MapLine → Bool
-names_community_list list (MatchCommunity m) = list_any (bytes_eq list) m.lists
-names_community_list list (DeleteCommunities other) = bytes_eq list other
-names_community_list list _ = false
-
--- the line names this path list
-abbrev pub names_path_list : List ℕ → MapLine → Bool
-names_path_list list (MatchPath m) = list_any (bytes_eq list) m.lists
-names_path_list list _ = false
+-- the line names this list of this sort; the number is 0
+abbrev pub names_list : List ℕ → ℕ → ℕ → MapLine → Bool
+names_list list sort number line = (number == 0) && (sort == sort_code (lists_named line).0) && list_any (bytes_eq list) (lists_named line).1
 
 -- the form of a line as a number: lines of one form have one, both forms of `continue` are one, and so are
 -- both forms of `set community`
@@ -57,31 +59,24 @@ abbrev pub target_of : MapLine → Option ℕ
 target_of (Continue s) = s
 target_of _ = None
 
--- a line that sets the MED
-abbrev pub sets_med : MapLine → Bool
-sets_med (SetMetric n) = true
-sets_med _ = false
+-- the line sets this
+abbrev pub sets : Setting → MapLine → Bool
+sets Med (SetMetric n) = true
+sets Path (SetPrepend ns) = true
+sets NextHop (SetNextHop a) = true
+sets Communities (SetCommunity s) = true
+sets Communities (DeleteCommunities list) = true
+sets _ _ = false
 
--- a line that sets the next hop
-abbrev pub sets_next_hop : MapLine → Bool
-sets_next_hop (SetNextHop a) = true
-sets_next_hop _ = false
+-- what the line tests that an entry before it may set
+abbrev pub tested_by : MapLine → Option Setting
+tested_by (MatchMetric ns) = Some Med
+tested_by (MatchPath m) = Some Path
+tested_by (MatchNextHop m) = Some NextHop
+tested_by (MatchCommunity m) = Some Communities
+tested_by _ = None
 
--- a line that sets the AS path
-abbrev pub sets_path : MapLine → Bool
-sets_path (SetPrepend ns) = true
-sets_path _ = false
-
--- a line that sets the communities
-abbrev pub sets_communities : MapLine → Bool
-sets_communities (SetCommunity s) = true
-sets_communities (DeleteCommunities list) = true
-sets_communities _ = false
-
--- the second line sets what the first one tests
-abbrev pub sets_tested : MapLine → MapLine → Bool
-sets_tested (MatchMetric ns) line = sets_med line
-sets_tested (MatchNextHop m) line = sets_next_hop line
-sets_tested (MatchCommunity m) line = sets_communities line
-sets_tested (MatchPath m) line = sets_path line
-sets_tested _ line = false
+-- the line continues, or sets this
+abbrev pub has_effect : Effect → MapLine → Bool
+has_effect Continues line = continues line
+has_effect (Sets setting) line = sets setting line

@@ -1,42 +1,37 @@
 ghost use Rattle.std.specs.Prelude.{◌≡◌, [], ◌∷◌, true, None, IfOk, IfErr, MatchOption};
-ghost use Rattle.ios_reader.specs.Profile.{InProfile, first_fault_within, is_defined};
+ghost use Rattle.ios_reader.specs.Profile.{InProfile, all_forms, first_fault_within, is_defined};
 ghost use Rattle.ios_reader.specs.Faults.{IsCheckFault};
-ghost use Rattle.ios_reader.specs.declared.forms.Forms.TheVariants.{All};
 
 use crate::checked::CheckedIos;
-use crate::faults::{Repeats, fault_of, note_number, note_sort};
-use crate::forms::Forms;
+use crate::faults::fault_of;
+use crate::items::heads;
 use crate::known::known_of;
+use crate::names::Marked;
 use crate::place::{place_behind, place_of_start};
-use crate::sorts::heads;
+use crate::takes::{AllForms, Takes};
 use ios_tree::{IosItem, IosTree};
-use policy_text::{Cause, CheckFault, Span, copied};
+use policy_text::{Cause, CheckFault, NameOf, Span, copied};
 use route_types::{Memory, Row};
 use std::alloc::Global;
 use std::collections::BTreeSet;
 
-fn first_fault<'a>(
+fn first_fault<'a, T: Takes>(
     alloc: Global,
     policy: &'a [u8],
     items: &'a [IosItem],
-    taken: Forms,
 ) -> Result<Option<(Span, Cause)>, Memory>
-    ensures { IfOk result (λ o. o ≡ first_fault_within taken policy.now items.now) }
+    ensures { IfOk result (λ o. o ≡ first_fault_within T.takes policy.now items.now) }
 {
     let known = known_of(alloc, policy, items)?;
-    let mut entries = BTreeSet::new(alloc);
-    let mut headers = BTreeSet::new(alloc);
-    let mut sorts = BTreeSet::new(alloc);
+    let mut marks = BTreeSet::new(alloc);
     let mut place = place_of_start();
     let mut rest = items;
     while let [item, tail @ ..] = rest {
-        let number = note_number(&mut entries, &mut headers, &item.form)?;
-        let sort = note_sort(&mut sorts, &item.form)?;
-        let repeats = Repeats { sort, number };
-        if let Some(cause) = fault_of(policy, &known, taken, &place, repeats, &item.form) {
+        if let Some(cause) = fault_of::<T>(&known, &place, &marks, &item.form) {
             return Ok(Some((item.span, cause)));
         }
-        place = place_behind(policy, place, &item.form);
+        Marked::note(&mut marks, item)?;
+        place = place_behind(policy, place, item);
         rest = tail;
     }
     Ok(None)
@@ -57,13 +52,13 @@ fn is_defined(policy: &[u8], items: &[IosItem]) -> bool
 }
 
 // Why the policy of this name lies outside the profile, for a caller who takes these forms, if it does.
-fn refusal(alloc: Global, name: &[u8], items: &[IosItem], taken: Forms) -> Option<CheckFault>
-    ensures { MatchOption result ((is_defined name.now items.now ≡ true) × (first_fault_within taken name.now items.now ≡ None)) (IsCheckFault taken name.now items.now) }
+fn refusal<T: Takes>(alloc: Global, name: &[u8], items: &[IosItem]) -> Option<CheckFault>
+    ensures { MatchOption result ((is_defined name.now items.now ≡ true) × (first_fault_within T.takes name.now items.now ≡ None)) (IsCheckFault T.takes name.now items.now) }
 {
     if !is_defined(name, items) {
         return Some(CheckFault::NoPolicy { place: 0 });
     }
-    match first_fault(alloc, name, items, taken) {
+    match first_fault::<T>(alloc, name, items) {
         Ok(None) => None,
         Ok(Some((span, cause))) => Some(CheckFault::Outside { span, cause }),
         Err(_) => Some(CheckFault::Memory),
@@ -78,25 +73,24 @@ fn one_name(alloc: Global, name: &[u8]) -> Result<Row<Row<u8>>, Memory>
     Ok(names)
 }
 
-/// As `check_ios`, for a caller who takes these forms alone: a reached statement of another form is of
-/// an unknown one (`UnknownForm`), and counts among the faults by its place in the text.
-#[tactic(auto, using(crate::proofs::Fewer::is_in_profile))]
-pub fn check_ios_within(
+/// As `check_ios`, for a caller who takes the forms of `T` alone: a reached statement of another form is
+/// of an unknown one (`UnknownForm`), and counts among the faults by its place in the text.
+#[tactic(auto, using(crate::proofs::LeastFault::is_in_profile))]
+pub fn check_ios_within<T: Takes>(
     alloc: Global,
     tree: IosTree,
     name: &[u8],
-    taken: Forms,
 ) -> Result<CheckedIos, CheckFault>
     // The tree and the name are the ones given.
     ensures value { IfOk result (λ p. p ≡ record { items = tree; names = name.now ∷ [] }) }
     // A policy is checked only in profile.
     ensures profile { IfOk result (λ p. InProfile name.now tree) }
     // No reached statement is of a form that isn't taken.
-    ensures sound { IfOk result (λ p. first_fault_within taken name.now tree ≡ None) }
+    ensures sound { IfOk result (λ p. first_fault_within T.takes name.now tree ≡ None) }
     // What a fault says of the policy.
-    ensures fault { IfErr result (IsCheckFault taken name.now tree) }
+    ensures fault { IfErr result (IsCheckFault T.takes name.now tree) }
 {
-    if let Some(fault) = refusal(alloc, name, tree.items(), taken) {
+    if let Some(fault) = refusal::<T>(alloc, name, tree.items()) {
         return Err(fault);
     }
     let Ok(names) = one_name(alloc, name) else {
@@ -124,7 +118,7 @@ pub fn check_ios(alloc: Global, tree: IosTree, name: &[u8]) -> Result<CheckedIos
     // A policy is checked only in profile.
     ensures profile { IfOk result (λ p. InProfile name.now tree) }
     // What a fault says of the policy.
-    ensures fault { IfErr result (IsCheckFault All name.now tree) }
+    ensures fault { IfErr result (IsCheckFault all_forms name.now tree) }
 {
-    check_ios_within(alloc, tree, name, Forms::All)
+    check_ios_within::<AllForms>(alloc, tree, name)
 }

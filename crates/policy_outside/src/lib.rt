@@ -11,8 +11,6 @@ mod memory_shelf;
 mod memory_sink;
 mod shelf;
 mod sink;
-#[cfg(test)]
-mod tests;
 mod write_sink;
 
 pub use faults::{FetchFault, Memory, PutFault};

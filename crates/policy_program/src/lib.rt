@@ -36,9 +36,3 @@ pub use top_call::run;
 pub use status::Status;
 pub use translation::translate;
 pub use word_laws::{refused_by_a_cause, words_ask_once};
-
-#[cfg(test)]
-mod tests;
-
-#[cfg(test)]
-use std::alloc::Global;

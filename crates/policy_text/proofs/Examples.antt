@@ -4,7 +4,7 @@ use Rattle.std.specs.Prelude.{Some, None, codes}
 use Rattle.text_words.specs.Text.{lines_at}
 use Rattle.route_types.specs.Words.{number_in}
 use Rattle.text_words.specs.IosCut.{ios_cut, words_at}
-use Rattle.policy_text.specs.Phrases.{texts, after, only, each, some_each, name_in}
+use Rattle.policy_text.specs.Phrases.{texts, after, only, each, some_each, name_in, optional_at}
 
 -- a comment, a line in the first column and one behind a blank, with CR LF
 abbrev sample : List ℕ
@@ -50,3 +50,12 @@ one_of_two = refl
 
 no_name : name_in (codes "a{b") ≡ None
 no_name = refl
+
+-- `seq 5` behind the name, and what stands behind it
+with_number : optional_at (codes "seq" ∷ []) (number_in 9) (codes "seq" ∷ codes "5" ∷ codes "permit" ∷ []) ≡ Some (Some 5, codes "permit" ∷ [])
+unfolding after number_in
+with_number = refl
+
+without_number : optional_at (codes "seq" ∷ []) (number_in 9) (codes "permit" ∷ []) ≡ Some (None, codes "permit" ∷ [])
+unfolding after
+without_number = refl

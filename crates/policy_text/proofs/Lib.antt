@@ -1,3 +1,7 @@
 pub mod Phrases
+pub mod Agree
+pub mod Values
 pub mod Lengths
+pub mod NameSets
+pub mod FirstFaults
 mod Examples

@@ -1,16 +1,25 @@
--- The laws of phrases, both ways: what is found is spelled by the words, and what is spelled is found.
-use Rattle.std.proofs.Common.{◌≡◌, refl, sym, ap, ◌∙◌, ℕ, ◌<◌, ◌^◌, Bool, true, false, List, [], ◌∷◌, ◌++◌, length, append_assoc, Option, Some, None, arith}
-use Rattle.std.specs.Prelude.{IsTrue, bytes_eq, decimal, option_map}
+-- The laws of first words and of walks over words, both ways: what is found is spelled by the words, and
+-- what is spelled is found.
+use Rattle.std.proofs.Common.{◌≡◌, refl, sym, ap, ◌∙◌, subst, ℕ, ◌<◌, ◌^◌, Bool, true, false, List, [], ◌∷◌, ◌++◌, append_assoc, Option, Some, None}
+use Rattle.std.specs.Prelude.{bytes_eq, decimal, option_map, ◌==◌}
+use Rattle.std.specs.Cmp.{nat_eq_equiv}
+use Rattle.std.proofs.lemmas.Bool.{ne_eqb}
 use Rattle.std.proofs.lemmas.List.{append-nil}
 use Rattle.std.proofs.lemmas.Slice.Eq.{bytes_eq-Decides}
+use Rattle.route_types.specs.Words.{◌>>=◌, when, is_digit}
+use Rattle.route_types.proofs.Numbers.{some_is, bind_found, decimal_starts}
+use Rattle.policy_text.specs.Names.{first_some}
+use Rattle.policy_text.specs.Phrases.{after, each, each_onto, Each}
+use Rattle.std.proofs.Common.{arith, length}
+use Rattle.std.specs.Prelude.{IsTrue}
+use Rattle.policy_text.specs.Phrases.{only, some_each, name_in}
 use Rattle.route_types.specs.Address.{PrefixParts, prefix_of}
-use Rattle.route_types.specs.Words.{◌>>=◌, when, number_in, address_in, prefix_in, community_in, IsNumber, IsAddress, IsPrefix, IsCommunity}
+use Rattle.route_types.specs.Words.{number_in, address_in, prefix_in, community_in, IsNumber, IsAddress, IsPrefix, IsCommunity}
 use Rattle.route_types.specs.declared.address.Address.{Address}
 use Rattle.route_types.specs.declared.community.Community.{Community}
-use Rattle.route_types.proofs.Numbers.{some_is, bind_found, when_true, number_in_found, number_in_spelled}
+use Rattle.route_types.proofs.Numbers.{when_true, number_in_found, number_in_spelled}
 use Rattle.route_types.proofs.Spelled.{address_in_found, address_in_spelled, prefix_in_found, prefix_in_spelled, community_in_found, community_in_spelled}
 use Rattle.policy_text.specs.Names.{is_name}
-use Rattle.policy_text.specs.Phrases.{after, only, each, each_onto, some_each, name_in, Each}
 
 -- ---- the words behind the first ones
 
@@ -19,7 +28,8 @@ pub when_found : {A : Type 0} (b : Bool) (x y : A) → when b x ≡ Some y → (
 when_found true x y e = (refl, some_is x y e)
 when_found false x y e = absurd cc
 
-same_bytes : (a b : List ℕ) → bytes_eq a b ≡ true → a ≡ b
+-- texts that compare as the same are the same
+pub same_bytes : (a b : List ℕ) → bytes_eq a b ≡ true → a ≡ b
 same_bytes a b e = (bytes_eq-Decides a b).0 e
 
 key_found : (t : Bool) (k w : List ℕ) (ks ws rest : List (List ℕ)) → bytes_eq k w ≡ t → (after ks ws ≡ Some rest → ws ≡ ks ++ rest) → (elim t [ true ↦ after ks ws | false ↦ None ]) ≡ Some rest → w ∷ ws ≡ (k ∷ ks) ++ rest
@@ -41,18 +51,6 @@ behind_keys (k ∷ ks) rest = rw (after, (bytes_eq-Decides k k).1 refl) (behind_
 -- what is behind these first words is found
 pub after_spelled : (ks ws rest : List (List ℕ)) → ws ≡ ks ++ rest → after ks ws ≡ Some rest
 after_spelled ks ws rest e = ap (λ (x : List (List ℕ)). after ks x) e ∙ behind_keys ks rest
-
--- ---- the one word
-
--- there is one word, and it has the value
-pub only_found : {A : Type 0} (f : List ℕ → Option A) (ws : List (List ℕ)) (x : A) → only f ws ≡ Some x → (w : List ℕ) × (ws ≡ w ∷ []) × (f w ≡ Some x)
-only_found f [] x e = absurd cc
-only_found f (w ∷ []) x e = (w, refl, e)
-only_found f (v ∷ w ∷ ws) x e = absurd cc
-
--- the value of the one word is found
-pub only_spelled : {A : Type 0} (f : List ℕ → Option A) (ws : List (List ℕ)) (w : List ℕ) (x : A) → ws ≡ w ∷ [] → f w ≡ Some x → only f ws ≡ Some x
-only_spelled {A} f ws w x one e = ap (λ (vs : List (List ℕ)). only f vs) one ∙ e
 
 -- ---- all words
 
@@ -79,16 +77,6 @@ each_spelled f P is [] (x ∷ xs) h = absurd h
 each_spelled f P is (w ∷ ws) [] h = absurd h
 each_spelled f P is (w ∷ ws) (x ∷ xs) h = rw (is w x h.0, each_spelled f P is ws xs h.1) refl
 
--- there is a word, and the words have these values one by one
-pub some_each_found : {A : Type 0} (f : List ℕ → Option A) (P : List ℕ → A → Type 0) → ((w : List ℕ) (x : A) → f w ≡ Some x → P w x) → (ws : List (List ℕ)) (xs : List A) → some_each f ws ≡ Some xs → (0 < length ws) × Each P ws xs
-some_each_found f P is [] xs e = absurd cc
-some_each_found f P is (w ∷ ws) xs e = (omega arith, each_found f P is (w ∷ ws) xs e)
-
--- the values that the words have one by one are found, where there is a word
-pub some_each_spelled : {A : Type 0} (f : List ℕ → Option A) (P : List ℕ → A → Type 0) → ((w : List ℕ) (x : A) → P w x → f w ≡ Some x) → (ws : List (List ℕ)) (xs : List A) → 0 < length ws → Each P ws xs → some_each f ws ≡ Some xs
-some_each_spelled f P is [] xs some h = absurd (omega (arith, some))
-some_each_spelled f P is (w ∷ ws) xs some h = each_spelled f P is (w ∷ ws) xs h
-
 by_rest : {A : Type 0} (found : List A) (x : A) (o : Option (List A)) → option_map (λ xs. (found ++ x ∷ []) ++ xs) o ≡ option_map (λ xs. found ++ xs) (o >>= λ xs. Some (x ∷ xs))
 by_rest {A} found x (Some xs) = ap (λ (ys : List A). Some ys) (append_assoc found (x ∷ []) xs)
 by_rest found x None = refl
@@ -110,6 +98,56 @@ from_nothing None = refl
 -- the walk over the words gives the values of all of them
 pub each_by_walk : {A : Type 0} (f : List ℕ → Option A) (ws : List (List ℕ)) → each_onto f [] ws ≡ each f ws
 each_by_walk f ws = onto_found f [] ws ∙ from_nothing (each f ws)
+
+-- ---- what the laws of forms stand on
+
+-- the first value that is there is one of the two
+pub first_found : {A : Type 0} (o p : Option A) (x : A) (P : Type 0) → (o ≡ Some x → P) → (p ≡ Some x → P) → first_some o p ≡ Some x → P
+first_found (Some y) p x P one two e = one e
+first_found None p x P one two e = two e
+
+-- a value that is made is made of one that was found
+pub map_found : {A B : Type 0} (o : Option A) (make : A → B) (y : B) → option_map make o ≡ Some y → (x : A) × (o ≡ Some x) × (make x ≡ y)
+map_found (Some x) make y e = (x, refl, some_is (make x) y e)
+map_found None make y e = absurd cc
+
+-- a number's text is no word whose first byte is no digit
+pub no_keyword : (n k : ℕ) (ks : List ℕ) → n < 2 ^ 64 → is_digit k ≡ false → bytes_eq (decimal n) (k ∷ ks) ≡ false
+no_keyword n k ks small other =
+    let s = decimal_starts n small in
+    let apart : (s.first == k) ≡ false = ne_eqb s.first k (λ (e : s.first ≡ k). let d : is_digit k ≡ true = subst (λ (x : ℕ). is_digit x ≡ true) e s.digit in absurd cc) in
+    ap (λ (w : List ℕ). bytes_eq w (k ∷ ks)) s.is ∙ rw apart refl
+
+-- comparing goes both ways
+pub bytes_sym : (xs ys : List ℕ) → bytes_eq xs ys ≡ bytes_eq ys xs
+bytes_sym [] [] = refl
+bytes_sym [] (y ∷ ys) = refl
+bytes_sym (x ∷ xs) [] = refl
+bytes_sym (x ∷ xs) (y ∷ ys) = rw (nat_eq_equiv.symm x y, bytes_sym xs ys) refl
+
+-- ---- goes once `ios_tree` stands on `Agree`
+
+-- ---- the one word
+
+-- there is one word, and it has the value
+pub only_found : {A : Type 0} (f : List ℕ → Option A) (ws : List (List ℕ)) (x : A) → only f ws ≡ Some x → (w : List ℕ) × (ws ≡ w ∷ []) × (f w ≡ Some x)
+only_found f [] x e = absurd cc
+only_found f (w ∷ []) x e = (w, refl, e)
+only_found f (v ∷ w ∷ ws) x e = absurd cc
+
+-- the value of the one word is found
+pub only_spelled : {A : Type 0} (f : List ℕ → Option A) (ws : List (List ℕ)) (w : List ℕ) (x : A) → ws ≡ w ∷ [] → f w ≡ Some x → only f ws ≡ Some x
+only_spelled {A} f ws w x one e = ap (λ (vs : List (List ℕ)). only f vs) one ∙ e
+
+-- there is a word, and the words have these values one by one
+pub some_each_found : {A : Type 0} (f : List ℕ → Option A) (P : List ℕ → A → Type 0) → ((w : List ℕ) (x : A) → f w ≡ Some x → P w x) → (ws : List (List ℕ)) (xs : List A) → some_each f ws ≡ Some xs → (0 < length ws) × Each P ws xs
+some_each_found f P is [] xs e = absurd cc
+some_each_found f P is (w ∷ ws) xs e = (omega arith, each_found f P is (w ∷ ws) xs e)
+
+-- the values that the words have one by one are found, where there is a word
+pub some_each_spelled : {A : Type 0} (f : List ℕ → Option A) (P : List ℕ → A → Type 0) → ((w : List ℕ) (x : A) → P w x → f w ≡ Some x) → (ws : List (List ℕ)) (xs : List A) → 0 < length ws → Each P ws xs → some_each f ws ≡ Some xs
+some_each_spelled f P is [] xs some h = absurd (omega (arith, some))
+some_each_spelled f P is (w ∷ ws) xs some h = each_spelled f P is (w ∷ ws) xs h
 
 -- ---- the values of a word
 

@@ -1,7 +1,15 @@
 -- The lengths that `ge` and `le` behind a prefix give, in IOS prefix lists and in RPL prefix sets.
-use Rattle.std.specs.Prelude.{ℕ, ◌&&◌, nat_le, List, [], ◌∷◌, Option, Some, None, codes, bytes_eq}
+use Rattle.std.specs.Prelude.{◌≡◌, ℕ, ◌≤◌, ◌⊎◌, ◌&&◌, nat_le, List, [], ◌∷◌, Option, Some, None, codes, bytes_eq, decimal}
 use Rattle.route_types.specs.Words.{◌>>=◌, when, number_in}
 use Rattle.policy_text.specs.Names.{first_some}
+
+-- what may stand behind a prefix of length n, and the least and the most length that it gives
+abbrev pub SpellBounds : ℕ → List (List ℕ) → ℕ × ℕ → Type 0
+SpellBounds n ws (least, most) = (n ≤ least) × (least ≤ most) × (
+    ((ws ≡ []) × (least ≡ n) × (most ≡ n))
+    ⊎ ((ws ≡ codes "ge" ∷ decimal least ∷ []) × (most ≡ 32))
+    ⊎ ((ws ≡ codes "le" ∷ decimal most ∷ []) × (least ≡ n) × (most ≤ 32))
+    ⊎ ((ws ≡ codes "ge" ∷ decimal least ∷ codes "le" ∷ decimal most ∷ []) × (most ≤ 32)))
 
 -- the least and the most length of `ge G`, or of `le E`, behind a prefix of length n
 abbrev pub one_bound_in : ℕ → List ℕ → List ℕ → Option (ℕ × ℕ)

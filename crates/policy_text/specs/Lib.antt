@@ -1,3 +1,5 @@
 pub mod Names
 pub mod Bounds
 pub mod Phrases
+pub mod Causes
+pub mod NameSets

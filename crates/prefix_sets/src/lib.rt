@@ -7,6 +7,3 @@ mod range;
 
 pub use list::{PrefixEntry, PrefixList, holds};
 pub use range::PrefixRange;
-
-#[cfg(test)]
-mod tests;

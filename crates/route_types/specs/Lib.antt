@@ -1,4 +1,5 @@
 pub mod Address
+pub mod Sets
 pub mod Community
 pub mod Route
 pub mod Change

@@ -1,5 +1,5 @@
 ghost use Rattle.std.specs.Prelude.{◌≡◌, ◌≤◌, ◌++◌, ◌/◌, ◌%◌, ◌^◌, not, filter, IfOk};
-ghost use Rattle.std.specs.List.{list_any};
+ghost use Rattle.route_types.specs.Sets.{fits_some};
 ghost use Rattle.route_types.specs.Community.{fits, set_of, set_after};
 
 use std::alloc::Global;
@@ -73,7 +73,8 @@ impl Rect {
 
     /// The greatest upper half, at least the least one.
     pub fn high_most(&self) -> u16
-        ensures { result ≡ self.now.high_most }
+        ensures value { result ≡ self.now.high_most }
+        ensures ordered { self.now.high_least ≤ result }
     {
         self.high_most
     }
@@ -87,7 +88,8 @@ impl Rect {
 
     /// The greatest lower half, at least the least one.
     pub fn low_most(&self) -> u16
-        ensures { result ≡ self.now.low_most }
+        ensures value { result ≡ self.now.low_most }
+        ensures ordered { self.now.low_least ≤ result }
     {
         self.low_most
     }
@@ -110,21 +112,27 @@ pub struct CommChange {
     pub added: Row<Community>,
 }
 
-fn is_removed(removed: &[Rect], community: &Community) -> bool
-    ensures { result ≡ list_any (λ r. fits r community.now) removed.now }
+/// Whether some of the rectangles is fitted by the community. It takes no memory.
+pub fn fits_some(rects: &[Rect], community: &Community) -> bool
+    ensures { result ≡ fits_some fits rects.now community.now }
 {
-    removed.iter().any(|rect| rect.fits(community))
+    rects.iter().any(|rect| rect.fits(community))
 }
 
-fn kept(alloc: Global, removed: &[Rect], old: &[Community]) -> Result<Vec<Community>, Memory>
-    ensures { IfOk result (λ v. v.items ≡ filter (λ c. not (list_any (λ r. fits r c) removed.now)) old.now) }
+/// The communities that fit none of the rectangles, in their order. The one error is want of memory.
+pub fn unfitted(
+    alloc: Global,
+    rects: &[Rect],
+    communities: &[Community],
+) -> Result<Vec<Community>, Memory>
+    ensures { IfOk result (λ v. v.items ≡ filter (λ c. not (fits_some fits rects.now c)) communities.now) }
 {
-    let kept = old
+    let unfitted = communities
         .iter()
         .copied()
-        .filter(|community| !is_removed(removed, community))
+        .filter(|community| !fits_some(rects, community))
         .collect(alloc)?;
-    Ok(kept)
+    Ok(unfitted)
 }
 
 // The communities of a list in rising order and without repeats.
@@ -145,7 +153,7 @@ pub(crate) fn set_after(
 ) -> Result<Row<Community>, Memory>
     ensures { IfOk result (λ r. r ≡ set_after change.now.removed change.now.added old.now) }
 {
-    let mut list = kept(alloc, change.removed.as_slice(), old)?;
+    let mut list = unfitted(alloc, change.removed.as_slice(), old)?;
     list.extend_from_slice(change.added.as_slice())?;
     Ok(Row::from_vec(set_of(list)))
 }

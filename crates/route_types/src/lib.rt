@@ -20,7 +20,7 @@ mod words;
 
 pub use address::{Address, Family, Prefix};
 pub use change::{Change, apply_change};
-pub use community::{CommChange, Community, Rect};
+pub use community::{CommChange, Community, Rect, fits_some, unfitted};
 pub use fault::RouteFault;
 pub use laws::route_texts;
 pub use print::{push_address, push_number, push_prefix};

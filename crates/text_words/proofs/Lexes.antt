@@ -12,7 +12,7 @@ word_onto : (quote : ℕ) (text : List ℕ) (quoted : Bool) (more rest : List �
 word_onto quote text true more rest = ap (λ (cs : List ℕ). quote ∷ cs) (append_assoc text (quote ∷ more) rest)
 word_onto quote text false more rest = append_assoc text more rest
 
-piece_onto : (quote gap : ℕ) (text : List ℕ) (quoted : Bool) (more rest : List ℕ) → (spaces gap ++ word_then quote text quoted more) ++ rest ≡ spaces gap ++ word_then quote text quoted (more ++ rest)
+pub piece_onto : (quote gap : ℕ) (text : List ℕ) (quoted : Bool) (more rest : List ℕ) → (spaces gap ++ word_then quote text quoted more) ++ rest ≡ spaces gap ++ word_then quote text quoted (more ++ rest)
 piece_onto quote gap text quoted more rest = append_assoc (spaces gap) (word_then quote text quoted more) rest ∙ ap (λ (cs : List ℕ). spaces gap ++ cs) (word_onto quote text quoted more rest)
 
 spaces_length : (n : ℕ) → length (spaces n) ≡ n
@@ -31,7 +31,7 @@ or_right true b none e = absurd cc
 or_right false b none e = e
 
 -- spaces are passed over
-skips : {R : Type 0} (s : Signs) (read : ℕ → List ℕ → R) (onto : Word → R → R) (Stops : List ℕ → Type 0) → Lexes s read onto Stops → (n p : ℕ) (rest : List ℕ) → read p (spaces n ++ rest) ≡ read (p + n) rest
+pub skips : {R : Type 0} (s : Signs) (read : ℕ → List ℕ → R) (onto : Word → R → R) (Stops : List ℕ → Type 0) → Lexes s read onto Stops → (n p : ℕ) (rest : List ℕ) → read p (spaces n ++ rest) ≡ read (p + n) rest
 skips s read onto Stops h zero p rest = ap (λ (q : ℕ). read q rest) (sym (add-zero p))
 skips s read onto Stops h (suc n) p rest =
     let place : p + 1 + n ≡ p + suc n = omega arith in

@@ -5,3 +5,12 @@ pub mod Lexes
 pub mod ByteWords
 pub mod IosCut
 pub mod Lines
+pub mod JunosWords
+pub mod JunosCut
+pub mod JunosWalk
+pub mod JunosWritten
+pub mod RplWords
+pub mod RplCut
+pub mod RplReach
+pub mod RplText
+pub mod Rising

@@ -100,7 +100,7 @@ fn starts_comment(word: &[u8]) -> bool
     }
 }
 
-fn end_of_words(end: u64, words: &[Word]) -> u64
+pub(crate) fn end_of_words(end: u64, words: &[Word]) -> u64
     ensures { result ≡ end_of end words.now }
 {
     let mut last = end;
@@ -163,7 +163,7 @@ fn word_end(text: &[u8]) -> Option<usize>
     text.iter().position(|c| is_blank(*c))
 }
 
-fn is_blank(byte: u8) -> bool
+pub(crate) fn is_blank(byte: u8) -> bool
     ensures { result ≡ is_blank byte }
 {
     byte == b' ' || byte == b'\t'

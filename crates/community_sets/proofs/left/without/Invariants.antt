@@ -1,0 +1,12 @@
+use Rattle.std.proofs.Common.{◌≡◌, ◌||◌, ◌&&◌, length}
+use Rattle.std.specs.Prelude.{not}
+use Rattle.route_types.specs.Community.{fits}
+use Rattle.route_types.specs.Sets.{fits_some}
+use Rattle.route_types.specs.declared.community.Community.{Community}
+use Rattle.community_sets.proofs.left.without.Given as goal
+
+abbrev pub decreases-loop-ahead : goal.decreases-loop-ahead
+decreases-loop-ahead l = length l.ahead
+
+abbrev pub invariant-loop-ahead : goal.invariant-loop-ahead
+invariant-loop-ahead l = (c : Community) → (fits_some fits l.left.items c || (fits_some fits l.ahead c && not (fits l.removed c))) ≡ (fits_some fits l.rects c && not (fits l.removed c))

@@ -1,0 +1,78 @@
+// What policies make of routes, a file a subject: each route and each outcome by the lines that differ from a
+// plain one's.
+use crate::routes::route_text;
+use crate::runs::{JUDGE, shows, unfailing};
+use std::alloc::{AllocGlobal, Global};
+use std::process::Abort;
+use std::test::Fail;
+
+mod community_lists;
+mod entries;
+mod path_lists;
+mod prefix_lists;
+mod set_lines;
+
+/// What is made of a route.
+#[derive(Clone, Copy)]
+enum Verdict {
+    /// It is rejected.
+    Reject,
+    /// It is accepted, and these of its lines differ from those that it came with.
+    Accept(&'static [&'static str]),
+}
+
+/// A policy IN, and what it makes of routes, each by the lines that differ from the plain route's.
+type Policy = (&'static str, &'static [(&'static [&'static str], Verdict)]);
+
+/// The text of an outcome for the route with the lines `given`.
+fn outcome_text(alloc: Global, given: &[&'static str], verdict: Verdict) -> Result<String, Fail> {
+    match verdict {
+        Verdict::Reject => Ok(String::from_str(alloc, "reject\n")?),
+        Verdict::Accept(made) => {
+            let route = route_text(alloc, given, made)?;
+            Ok(format!(in alloc; "accept\n{route}")?)
+        }
+    }
+}
+
+/// The policy makes this of the route with the lines `given`.
+fn makes(
+    rt: &(impl Abort + AllocGlobal),
+    policy: &str,
+    given: &[&'static str],
+    verdict: Verdict,
+) -> Result<(), Fail> {
+    let route = route_text(rt.alloc(), given, &[])?;
+    let outcome = outcome_text(rt.alloc(), given, verdict)?;
+    let texts = judge_texts(policy, route.as_str());
+    shows(rt, &unfailing(JUDGE, &texts), (0, outcome.as_str(), ""))
+}
+
+/// The texts of a judge: the source, and the route.
+fn judge_texts<'a>(policy: &'a str, route: &'a str) -> [(&'a str, &'a str); 2] {
+    [("in.cfg", policy), ("r.txt", route)]
+}
+
+/// Each policy makes of its routes what is said.
+fn judged(rt: &(impl Abort + AllocGlobal), rows: &[Policy]) -> Result<(), Fail> {
+    for (policy, routes) in rows {
+        for (given, verdict) in *routes {
+            makes(rt, policy, given, *verdict)?;
+        }
+    }
+    Ok(())
+}
+
+#[test]
+fn policies(rt: HostRuntime) -> Result<(), Fail> {
+    for rows in [
+        community_lists::POLICIES,
+        entries::POLICIES,
+        path_lists::POLICIES,
+        prefix_lists::POLICIES,
+        set_lines::POLICIES,
+    ] {
+        judged(&rt, rows)?;
+    }
+    Ok(())
+}
