@@ -3,7 +3,8 @@ use Rattle.std.proofs.Common.{ap, ◌∙◌, ℕ, List, Ok, Err}
 use Rattle.ios_reader.specs.Profile.{PolicyParts}
 use Rattle.ios_tree.specs.declared.item.IosItem.{IosItem}
 use Rattle.ios_reader.specs.declared.forms.Forms.TheVariants.{All}
-use Rattle.ios_meaning.specs.Meaning.{ios_meaning}
+use Rattle.ios_tree.specs.Tree.{ios_tree}
+use Rattle.ios_meaning.specs.Meaning.{ios_meaning, name_of, first_name}
 use Rattle.policy_program.specs.Checked.{IsChecked}
 use Rattle.policy_program.specs.Translated.{Answer}
 use Rattle.policy_program.specs.Judgement.{outcome_text, Judges}
@@ -15,7 +16,9 @@ judges source policy route_file checked (Ok text) is judged = record {
   in_profile = is.in_profile;
   route = judged.0;
   spelled = judged.1;
-  is = judged.2 policy is.named ∙ ap (λ (items : List IosItem). outcome_text (ios_meaning items policy judged.0)) is.read;
+  is = judged.2
+    ∙ ap (λ (items : List IosItem). outcome_text (ios_meaning items (name_of checked) judged.0)) is.read
+    ∙ ap (λ (names : List (List ℕ)). outcome_text (ios_meaning (ios_tree source) (first_name names) judged.0)) is.named;
 }
 judges source policy route_file checked (Err NoPolicy) is judged = absurd judged
 judges source policy route_file checked (Err (Outside span cause)) is judged = absurd judged
