@@ -8,7 +8,7 @@ use Rattle.community_sets.specs.Tests.{test_holds, list_answers}
 use Rattle.community_sets.specs.declared.list.CommEntry.{CommEntry}
 use Rattle.ios_tree.specs.declared.item.CommunityListEntry.{CommunityListEntry}
 use Rattle.ios_tree.specs.declared.item.IosForm.{IosForm}
-use Rattle.ios_tree.specs.declared.item.IosForm.TheVariants.{PrefixEntry as OfPrefixList, PrefixDescription, CommunityEntry as OfCommunityList, PathEntry as OfPathList, MapHeader, Line, Other}
+use Rattle.ios_tree.specs.declared.item.IosForm.TheVariants.{CommunityEntry as OfCommunityList}
 use Rattle.ios_tree.specs.declared.item.IosItem.{IosItem}
 use Rattle.ios_meaning.specs.Lists.{test_of, community_list, community_entry_from}
 use Rattle.ios_meaning.specs.Answers.{first_of, answered_by, answered_from, answered_at, AreCommunityAnswers}
@@ -29,13 +29,8 @@ step_by exact cs e es o false true h = refl
 step_by exact cs e es o false false h = refl
 
 form_step : (exact : Bool) (cs : List Community) (list : List ℕ) (form : IosForm) (es : List CommEntry) (o : Option Bool) → unwrap_or (answered_by exact cs list form o) (list_answers es cs) ≡ unwrap_or o (list_answers (community_entry_from exact list form es) cs)
-form_step exact cs list (OfPrefixList e) es o = refl
-form_step exact cs list (PrefixDescription d) es o = refl
 form_step exact cs list (OfCommunityList e) es o = step_by exact cs e es o (bytes_eq list e.list) (test_holds (test_of exact e.shape) cs) refl
-form_step exact cs list (OfPathList e) es o = refl
-form_step exact cs list (MapHeader h) es o = refl
-form_step exact cs list (Line l) es o = refl
-form_step exact cs list (Other i) es o = refl
+form_step exact cs list _ es o = refl
 
 answered : (exact : Bool) (cs : List Community) (list : List ℕ) (is : List IosItem) (o : Option Bool) → unwrap_or (answered_from exact cs list o is) false ≡ unwrap_or o (list_answers (community_list exact list is) cs)
 unfolding answered_from list_answers

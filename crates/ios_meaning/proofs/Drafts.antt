@@ -14,7 +14,7 @@ use Rattle.community_sets.specs.declared.list.CommEntry.{CommEntry}
 use Rattle.ios_reader.specs.Entries.{Entry}
 use Rattle.ios_tree.specs.declared.item.CommunityListEntry.{CommunityListEntry}
 use Rattle.ios_tree.specs.declared.item.IosForm.{IosForm}
-use Rattle.ios_tree.specs.declared.item.IosForm.TheVariants.{PrefixEntry as OfPrefixList, PrefixDescription, CommunityEntry as OfCommunityList, PathEntry as OfPathList, MapHeader, Line, Other}
+use Rattle.ios_tree.specs.declared.item.IosForm.TheVariants.{CommunityEntry as OfCommunityList}
 use Rattle.ios_tree.specs.declared.item.IosItem.{IosItem}
 use Rattle.ios_tree.specs.declared.item.MapLine.{MapLine}
 use Rattle.ios_tree.specs.declared.item.MapLine.TheVariants.{MatchPrefix, MatchNextHop, MatchCommunity, MatchPath, MatchMetric, SetLocalPreference, SetMetric, SetWeight, SetPrepend, SetOrigin, SetNextHop, SetCommunity, DeleteCommunities, Continue, Description}
@@ -35,13 +35,8 @@ entry_answers list e es fs c false more = more
 
 form_answers : (list : List ℕ) (form : IosForm) (es : List CommunityListEntry) (fs : List CommEntry) (c : Community) → answers_alone es c ≡ list_answers fs (c ∷ [])
     → answers_alone (entry_named list form es) c ≡ list_answers (community_entry_from false list form fs) (c ∷ [])
-form_answers list (OfPrefixList e) es fs c more = more
-form_answers list (PrefixDescription d) es fs c more = more
 form_answers list (OfCommunityList e) es fs c more = entry_answers list e es fs c (bytes_eq list e.list) more
-form_answers list (OfPathList e) es fs c more = more
-form_answers list (MapHeader h) es fs c more = more
-form_answers list (Line l) es fs c more = more
-form_answers list (Other i) es fs c more = more
+form_answers list _ es fs c more = more
 
 same_answers : (list : List ℕ) (all : List IosItem) (c : Community) → answers_alone (entries_named list all) c ≡ list_answers (community_list false list all) (c ∷ [])
 unfolding list_answers

@@ -6,7 +6,7 @@ use Rattle.std.specs.BTreeMap.{BTreeMap}
 use Rattle.aspath_text.specs.Finds.{finds_in}
 use Rattle.ios_tree.specs.declared.item.PathListEntry.{PathListEntry}
 use Rattle.ios_tree.specs.declared.item.IosForm.{IosForm}
-use Rattle.ios_tree.specs.declared.item.IosForm.TheVariants.{PrefixEntry as OfPrefixList, PrefixDescription, CommunityEntry as OfCommunityList, PathEntry as OfPathList, MapHeader, Line, Other}
+use Rattle.ios_tree.specs.declared.item.IosForm.TheVariants.{PathEntry as OfPathList}
 use Rattle.ios_tree.specs.declared.item.IosItem.{IosItem}
 use Rattle.ios_meaning.specs.Lists.{path_list, path_entry_from, path_answers}
 use Rattle.ios_meaning.specs.Answers.{first_of, path_answered_by, path_answered_from, answered_at, ArePathAnswers}
@@ -27,13 +27,8 @@ step_by path e es o false true h = refl
 step_by path e es o false false h = refl
 
 form_step : (path list : List ℕ) (form : IosForm) (es : List PathListEntry) (o : Option Bool) → unwrap_or (path_answered_by path list form o) (path_answers es path) ≡ unwrap_or o (path_answers (path_entry_from list form es) path)
-form_step path list (OfPrefixList e) es o = refl
-form_step path list (PrefixDescription d) es o = refl
-form_step path list (OfCommunityList e) es o = refl
 form_step path list (OfPathList e) es o = step_by path e es o (bytes_eq list e.list) (finds_in e.pattern path) refl
-form_step path list (MapHeader h) es o = refl
-form_step path list (Line l) es o = refl
-form_step path list (Other i) es o = refl
+form_step path list _ es o = refl
 
 answered : (path list : List ℕ) (is : List IosItem) (o : Option Bool) → unwrap_or (path_answered_from path list o is) false ≡ unwrap_or o (path_answers (path_list list is) path)
 unfolding path_answered_from path_answers

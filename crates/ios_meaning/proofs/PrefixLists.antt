@@ -17,7 +17,7 @@ use Rattle.prefix_sets.specs.FirstMatch.{first_match}
 use Rattle.ios_tree.specs.Tree.{family_of}
 use Rattle.ios_tree.specs.declared.item.PrefixListEntry.{PrefixListEntry}
 use Rattle.ios_tree.specs.declared.item.IosForm.{IosForm}
-use Rattle.ios_tree.specs.declared.item.IosForm.TheVariants.{PrefixEntry as OfPrefixList, PrefixDescription, CommunityEntry as OfCommunityList, PathEntry as OfPathList, MapHeader, Line, Other}
+use Rattle.ios_tree.specs.declared.item.IosForm.TheVariants.{PrefixEntry as OfPrefixList}
 use Rattle.ios_tree.specs.declared.item.IosItem.{IosItem}
 use Rattle.ios_meaning.specs.Order.{put_in_order, in_order}
 use Rattle.ios_meaning.specs.Lists.{prefix_entry_from, prefix_entries, prefix_list}
@@ -190,12 +190,7 @@ decided_form : (p : PrefixParts) (f : Family) (list : List ℕ) → same_family 
     → lowest_from p o (prefix_entry_from f list form rest) ≡ lowest_from p (decided_by p list form o) rest
 decided_form p f list s (OfPrefixList e) o rest =
     step_by p e o rest (same_family f (family_of e)) (bytes_eq list e.list) (λ a. of_no_family p e (other_family f (family_of e) p.address.family s a))
-decided_form p f list s (PrefixDescription d) o rest = refl
-decided_form p f list s (OfCommunityList e) o rest = refl
-decided_form p f list s (OfPathList e) o rest = refl
-decided_form p f list s (MapHeader h) o rest = refl
-decided_form p f list s (Line l) o rest = refl
-decided_form p f list s (Other i) o rest = refl
+decided_form p f list s _ o rest = refl
 
 decided_is : (p : PrefixParts) (f : Family) (list : List ℕ) → same_family f p.address.family ≡ true → (is : List IosItem) (o : Option Deciding) → lowest_from p o (prefix_entries f list is) ≡ decided_from p list o is
 unfolding decided_from
@@ -210,12 +205,7 @@ none_by p e rest false b h = refl
 none_form : (p : PrefixParts) (f : Family) (list : List ℕ) → same_family f p.address.family ≡ false → (form : IosForm) (rest : List PrefixListEntry) → lowest_from p None (prefix_entry_from f list form rest) ≡ lowest_from p None rest
 none_form p f list s (OfPrefixList e) rest =
     none_by p e rest (same_family f (family_of e)) (bytes_eq list e.list) (λ a. of_no_family p e (not_the_family f (family_of e) p.address.family s a))
-none_form p f list s (PrefixDescription d) rest = refl
-none_form p f list s (OfCommunityList e) rest = refl
-none_form p f list s (OfPathList e) rest = refl
-none_form p f list s (MapHeader h) rest = refl
-none_form p f list s (Line l) rest = refl
-none_form p f list s (Other i) rest = refl
+none_form p f list s _ rest = refl
 
 none_is : (p : PrefixParts) (f : Family) (list : List ℕ) → same_family f p.address.family ≡ false → (is : List IosItem) → lowest_from p None (prefix_entries f list is) ≡ None
 none_is p f list s [] = refl

@@ -16,7 +16,7 @@ use Rattle.community_sets.specs.Tests.{test_holds, list_answers}
 use Rattle.aspath_text.specs.Finds.{finds_in}
 use Rattle.ios_tree.specs.declared.item.PrefixListEntry.{PrefixListEntry}
 use Rattle.ios_tree.specs.declared.item.IosForm.{IosForm}
-use Rattle.ios_tree.specs.declared.item.IosForm.TheVariants.{PrefixEntry as OfPrefixList, PrefixDescription, CommunityEntry as OfCommunityList, PathEntry as OfPathList, MapHeader, Line, Other}
+use Rattle.ios_tree.specs.declared.item.IosForm.TheVariants.{PrefixEntry as OfPrefixList, CommunityEntry as OfCommunityList, PathEntry as OfPathList}
 use Rattle.ios_tree.specs.declared.item.IosItem.{IosItem}
 use Rattle.ios_meaning.specs.Lists.{prefix_list, community_list, test_of, path_list, path_answers}
 use Rattle.ios_meaning.specs.declared.prefix_answers.Deciding.{Deciding}
@@ -39,12 +39,7 @@ decided_by p list (OfPrefixList e) found = elim (in_range e.entry.range p) [
   | true ↦ elim (bytes_eq list e.list) [ true ↦ lower e found | false ↦ found ]
   | false ↦ found
 ]
-decided_by p list (PrefixDescription d) found = found
-decided_by p list (OfCommunityList e) found = found
-decided_by p list (OfPathList e) found = found
-decided_by p list (MapHeader h) found = found
-decided_by p list (Line l) found = found
-decided_by p list (Other o) found = found
+decided_by p list _ found = found
 
 -- the entry that decides behind these items, one having been found before them or not
 unfoldable pub decided_from : PrefixParts → List ℕ → Option Deciding → List IosItem → Option Deciding
@@ -68,16 +63,11 @@ first_of (Some a) b = Some a
 
 -- the answer behind one more item, for the list of this name
 abbrev pub answered_by : Bool → List Community → List ℕ → IosForm → Option Bool → Option Bool
-answered_by exact cs list (OfPrefixList e) found = found
-answered_by exact cs list (PrefixDescription d) found = found
 answered_by exact cs list (OfCommunityList e) found = elim (test_holds (test_of exact e.shape) cs) [
   | true ↦ elim (bytes_eq list e.list) [ true ↦ first_of found e.permit | false ↦ found ]
   | false ↦ found
 ]
-answered_by exact cs list (OfPathList e) found = found
-answered_by exact cs list (MapHeader h) found = found
-answered_by exact cs list (Line l) found = found
-answered_by exact cs list (Other o) found = found
+answered_by exact cs list _ found = found
 
 -- the answer behind these items, one having been found before them or not
 unfoldable pub answered_from : Bool → List Community → List ℕ → Option Bool → List IosItem → Option Bool
@@ -96,16 +86,11 @@ answers_at m list = unwrap_or (answered_at m list) false
 
 -- the answer behind one more item, for the list of this name
 abbrev pub path_answered_by : List ℕ → List ℕ → IosForm → Option Bool → Option Bool
-path_answered_by path list (OfPrefixList e) found = found
-path_answered_by path list (PrefixDescription d) found = found
-path_answered_by path list (OfCommunityList e) found = found
 path_answered_by path list (OfPathList e) found = elim (finds_in e.pattern path) [
   | true ↦ elim (bytes_eq list e.list) [ true ↦ first_of found e.permit | false ↦ found ]
   | false ↦ found
 ]
-path_answered_by path list (MapHeader h) found = found
-path_answered_by path list (Line l) found = found
-path_answered_by path list (Other o) found = found
+path_answered_by path list _ found = found
 
 -- the answer behind these items, one having been found before them or not
 unfoldable pub path_answered_from : List ℕ → List ℕ → Option Bool → List IosItem → Option Bool

@@ -15,7 +15,7 @@ use Rattle.community_sets.specs.Tests.{test_holds}
 use Rattle.ios_reader.specs.Entries.{Entry}
 use Rattle.ios_tree.specs.declared.item.CommunityListEntry.{CommunityListEntry}
 use Rattle.ios_tree.specs.declared.item.IosForm.{IosForm}
-use Rattle.ios_tree.specs.declared.item.IosForm.TheVariants.{PrefixEntry as OfPrefixList, PrefixDescription, CommunityEntry as OfCommunityList, PathEntry as OfPathList, MapHeader, Line, Other}
+use Rattle.ios_tree.specs.declared.item.IosForm.TheVariants.{CommunityEntry as OfCommunityList}
 use Rattle.ios_tree.specs.declared.item.IosItem.{IosItem}
 use Rattle.ios_tree.specs.declared.item.MapLine.{MapLine}
 use Rattle.ios_tree.specs.declared.item.MapLine.TheVariants.{SetLocalPreference, SetMetric, SetWeight, SetPrepend, SetOrigin, SetNextHop, SetCommunity, DeleteCommunities}
@@ -32,13 +32,8 @@ entry_of e = record { number = e.number; permit = e.permit; lines = map (λ l. l
 
 -- an item as an entry of this community list, before those behind it
 abbrev pub entry_named : List ℕ → IosForm → List CommunityListEntry → List CommunityListEntry
-entry_named list (OfPrefixList e) rest = rest
-entry_named list (PrefixDescription d) rest = rest
 entry_named list (OfCommunityList e) rest = elim (bytes_eq list e.list) [ true ↦ e ∷ rest | false ↦ rest ]
-entry_named list (OfPathList e) rest = rest
-entry_named list (MapHeader h) rest = rest
-entry_named list (Line l) rest = rest
-entry_named list (Other o) rest = rest
+entry_named list _ rest = rest
 
 -- the entries of the community list of this name, in text order
 abbrev pub entries_named : List ℕ → List IosItem → List CommunityListEntry

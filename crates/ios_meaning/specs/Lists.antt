@@ -16,19 +16,14 @@ use Rattle.ios_tree.specs.declared.item.CommunityShape.TheVariants.{Standard, Ex
 use Rattle.ios_tree.specs.declared.item.PathListEntry.{PathListEntry}
 use Rattle.ios_tree.specs.declared.item.PrefixListEntry.{PrefixListEntry}
 use Rattle.ios_tree.specs.declared.item.IosForm.{IosForm}
-use Rattle.ios_tree.specs.declared.item.IosForm.TheVariants.{PrefixEntry as OfPrefixList, PrefixDescription, CommunityEntry as OfCommunityList, PathEntry as OfPathList, MapHeader, Line, Other}
+use Rattle.ios_tree.specs.declared.item.IosForm.TheVariants.{PrefixEntry as OfPrefixList, CommunityEntry as OfCommunityList, PathEntry as OfPathList}
 use Rattle.ios_tree.specs.declared.item.IosItem.{IosItem}
 use Rattle.ios_meaning.specs.Order.{in_order}
 
 -- an item as an entry of this prefix list, before those behind it
 abbrev pub prefix_entry_from : Family → List ℕ → IosForm → List PrefixListEntry → List PrefixListEntry
 prefix_entry_from family list (OfPrefixList e) rest = elim (is_of_list family list e) [ true ↦ e ∷ rest | false ↦ rest ]
-prefix_entry_from family list (PrefixDescription d) rest = rest
-prefix_entry_from family list (OfCommunityList e) rest = rest
-prefix_entry_from family list (OfPathList e) rest = rest
-prefix_entry_from family list (MapHeader h) rest = rest
-prefix_entry_from family list (Line l) rest = rest
-prefix_entry_from family list (Other o) rest = rest
+prefix_entry_from family list _ rest = rest
 
 -- the entries of a prefix list, in text order
 abbrev pub prefix_entries : Family → List ℕ → List IosItem → List PrefixListEntry
@@ -50,13 +45,8 @@ test_of exact (Expanded r) = AllOf (r ∷ [])
 
 -- an item as an entry of this community list, before those behind it
 abbrev pub community_entry_from : Bool → List ℕ → IosForm → List CommEntry → List CommEntry
-community_entry_from exact list (OfPrefixList e) rest = rest
-community_entry_from exact list (PrefixDescription d) rest = rest
 community_entry_from exact list (OfCommunityList e) rest = elim (bytes_eq list e.list) [ true ↦ record { permit = e.permit; test = test_of exact e.shape } ∷ rest | false ↦ rest ]
-community_entry_from exact list (OfPathList e) rest = rest
-community_entry_from exact list (MapHeader h) rest = rest
-community_entry_from exact list (Line l) rest = rest
-community_entry_from exact list (Other o) rest = rest
+community_entry_from exact list _ rest = rest
 
 -- a community list: its entries in text order
 abbrev pub community_list : Bool → List ℕ → List IosItem → List CommEntry
@@ -65,13 +55,8 @@ community_list exact list (i ∷ is) = community_entry_from exact list i.form (c
 
 -- an item as an entry of this path list, before those behind it
 abbrev pub path_entry_from : List ℕ → IosForm → List PathListEntry → List PathListEntry
-path_entry_from list (OfPrefixList e) rest = rest
-path_entry_from list (PrefixDescription d) rest = rest
-path_entry_from list (OfCommunityList e) rest = rest
 path_entry_from list (OfPathList e) rest = elim (bytes_eq list e.list) [ true ↦ e ∷ rest | false ↦ rest ]
-path_entry_from list (MapHeader h) rest = rest
-path_entry_from list (Line l) rest = rest
-path_entry_from list (Other o) rest = rest
+path_entry_from list _ rest = rest
 
 -- a path list: its entries in text order
 abbrev pub path_list : List ℕ → List IosItem → List PathListEntry

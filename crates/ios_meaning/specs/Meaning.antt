@@ -17,6 +17,7 @@ use Rattle.route_types.specs.declared.route.Outcome.TheVariants.{Reject, Accept}
 use Rattle.prefix_sets.specs.FirstMatch.{first_match}
 use Rattle.community_sets.specs.Tests.{list_answers}
 use Rattle.ios_reader.specs.Entries.{Entry, entries_of}
+use Rattle.ios_reader.specs.Profile.{PolicyParts}
 use Rattle.ios_tree.specs.declared.item.IosItem.{IosItem}
 use Rattle.ios_tree.specs.declared.item.MapLine.{MapLine}
 use Rattle.ios_tree.specs.declared.item.MapLine.TheVariants.{MatchPrefix, MatchNextHop, MatchCommunity, MatchPath, MatchMetric, SetLocalPreference, SetMetric, SetWeight, SetPrepend, SetOrigin, SetNextHop, SetCommunity, DeleteCommunities, Continue}
@@ -109,3 +110,12 @@ run all r least held (e ∷ es) = elim (nat_le least e.number && entry_holds all
 -- the meaning of the policy of this name in a tree, on a route
 unfoldable pub ios_meaning : List IosItem → List ℕ → RouteParts → Outcome
 ios_meaning all name r = run all r 0 [] (in_order (λ e. e.number) (entries_of name all))
+
+-- the first of the names
+abbrev pub first_name : List (List ℕ) → List ℕ
+first_name [] = []
+first_name (name ∷ names) = name
+
+-- the name that a policy stands under: it has one
+abbrev pub name_of : PolicyParts → List ℕ
+name_of p = first_name p.names

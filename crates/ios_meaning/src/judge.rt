@@ -1,5 +1,5 @@
-ghost use Rattle.std.specs.Prelude.{◌≡◌, ◌∷◌, [], ℕ, List, IfOk, map};
-ghost use Rattle.ios_meaning.specs.Meaning.{continuation_of, at_end, run, set_by_entries, ios_meaning};
+ghost use Rattle.std.specs.Prelude.{◌≡◌, [], IfOk, map};
+ghost use Rattle.ios_meaning.specs.Meaning.{continuation_of, at_end, run, set_by_entries, ios_meaning, name_of};
 ghost use Rattle.ios_meaning.specs.Answers.{AreAnswers};
 ghost use Rattle.ios_meaning.specs.Drafts.{entry_of};
 
@@ -11,10 +11,11 @@ use route_types::{Memory, Outcome, Route};
 use std::alloc::Global;
 
 /// What the policy makes of a route: `Reject`, or `Accept` with the changed route (Cisco IOS IP Routing:
-/// Protocol-Independent command reference, 'route-map'). The one error is want of memory.
+/// Protocol-Independent command reference, 'route-map'). It is the meaning of the route-map that stands
+/// under the policy's name in its tree. The one error is want of memory.
 #[tactic(auto, unfolding(crate::specs::Meaning::ios_meaning))]
 pub fn judge_ios(alloc: Global, policy: &CheckedIos, route: &Route) -> Result<Outcome, Memory>
-    ensures { IfOk result (λ o. (name : List ℕ) → policy.now.names ≡ name ∷ [] → o ≡ ios_meaning policy.now.items name route.now) }
+    ensures { IfOk result (λ o. o ≡ ios_meaning policy.now.items (name_of policy.now) route.now) }
 {
     let [name] = policy.names() else {
         return Ok(Outcome::Reject);

@@ -17,16 +17,20 @@ nothing_left None h = refl
 nothing_left (Some cause) h = absurd (h cause refl)
 
 module _ (takes : IosForm → Bool) (name : List ℕ) (all rest : List IosItem) (place : Place) (marks : Marks) (walking : IsWalking takes name all rest place marks) where
-  -- the first fault from here on
-  abbrev from_here : List IosItem → Option (Span × Cause)
-  from_here is = first_fault_from span_of (rules_of takes name all) walking.0 is
+  -- the first cause of an item here
+  abbrev cause_here : IosItem → Option Cause
+  cause_here i = first_cause (rules_of takes name all walking.0 i)
+
+  -- the first fault of these items, with these before them
+  abbrev fault_from : List IosItem → List IosItem → Option (Span × Cause)
+  fault_from before is = first_fault_from span_of (rules_of takes name all) before is
 
   -- where no item is left there is no fault
   pub ends : length rest < 1 → None ≡ first_fault_within takes name all
   unfolding first_fault_within first_fault_from
   ends short = none rest short walking.2
     where
-      none : (is : List IosItem) → length is < 1 → from_here is ≡ first_fault_from span_of (rules_of takes name all) [] all → None ≡ first_fault_from span_of (rules_of takes name all) [] all
+      none : (is : List IosItem) → length is < 1 → fault_from walking.0 is ≡ fault_from [] all → None ≡ fault_from [] all
       none [] short e = e
       none (i ∷ is) short e = absurd (omega arith)
 
@@ -36,7 +40,7 @@ module _ (takes : IosForm → Bool) (name : List ℕ) (all rest : List IosItem) 
     kept_cause = first_cause (is_fault takes facts (told place marks) item.form)
 
     -- it is that of the profile
-    cause_is : kept_cause ≡ first_cause (rules_of takes name all walking.0 item)
+    cause_is : kept_cause ≡ cause_here item
     cause_is = λ j. first_cause (is_fault takes (known j) (walking.1.tells j) item.form)
 
     -- an item with a fault is the first one
@@ -44,11 +48,11 @@ module _ (takes : IosForm → Bool) (name : List ℕ) (all rest : List IosItem) 
     unfolding first_fault_within first_fault_from
     stops cause fault = stop rest long is walking.2
       where
-        stop : (is : List IosItem) → 1 ≤ length is → item ≡ get_or is 0 item → from_here is ≡ first_fault_from span_of (rules_of takes name all) [] all → Some (item.span, cause) ≡ first_fault_from span_of (rules_of takes name all) [] all
+        stop : (is : List IosItem) → 1 ≤ length is → item ≡ get_or is 0 item → fault_from walking.0 is ≡ fault_from [] all → Some (item.span, cause) ≡ fault_from [] all
         stop [] long same e = absurd (omega arith)
         stop (i ∷ is) long same e =
-            let there : first_cause (rules_of takes name all walking.0 i) ≡ Some cause = subst (λ (j : IosItem). first_cause (rules_of takes name all walking.0 j) ≡ Some cause) same (sym cause_is ∙ fault) in
-            let found : from_here (i ∷ is) ≡ Some (i.span, cause) = rw (first_fault_from, there) refl in
+            let there : cause_here i ≡ Some cause = subst (λ (j : IosItem). cause_here j ≡ Some cause) same (sym cause_is ∙ fault) in
+            let found : fault_from walking.0 (i ∷ is) ≡ Some (i.span, cause) = rw (first_fault_from, there) refl in
             ap (λ (j : IosItem). Some (j.span, cause)) same ∙ sym found ∙ e
 
     -- an item without a fault is passed
@@ -57,10 +61,10 @@ module _ (takes : IosForm → Bool) (name : List ℕ) (all rest : List IosItem) 
     unfolding first_fault_from
     passes m next more m-is none behind = pass rest long is m-is walking.2
       where
-        pass : (is : List IosItem) → 1 ≤ length is → item ≡ get_or is 0 item → m ≡ length is - 1 → from_here is ≡ first_fault_from span_of (rules_of takes name all) [] all → IsWalking takes name all (take m (drop 1 is)) next more
+        pass : (is : List IosItem) → 1 ≤ length is → item ≡ get_or is 0 item → m ≡ length is - 1 → fault_from walking.0 is ≡ fault_from [] all → IsWalking takes name all (take m (drop 1 is)) next more
         pass [] long same m-is e = absurd (omega arith)
         pass (i ∷ is) long same m-is e =
             let rest : take m is ≡ is = take_all m is (omega (arith, m-is)) in
-            let here : first_cause (rules_of takes name all walking.0 i) ≡ None = subst (λ (j : IosItem). first_cause (rules_of takes name all walking.0 j) ≡ None) same (sym cause_is ∙ none) in
-            let on : from_here (i ∷ is) ≡ first_fault_from span_of (rules_of takes name all) (i ∷ walking.0) is = rw (first_fault_from, here) refl in
-            rw rest (item ∷ walking.0, behind walking.0 walking.1, subst (λ (j : IosItem). first_fault_from span_of (rules_of takes name all) (j ∷ walking.0) is ≡ first_fault_from span_of (rules_of takes name all) [] all) (sym same) (sym on ∙ e))
+            let here : cause_here i ≡ None = subst (λ (j : IosItem). cause_here j ≡ None) same (sym cause_is ∙ none) in
+            let on : fault_from walking.0 (i ∷ is) ≡ fault_from (i ∷ walking.0) is = rw (first_fault_from, here) refl in
+            rw rest (item ∷ walking.0, behind walking.0 walking.1, subst (λ (j : IosItem). fault_from (j ∷ walking.0) is ≡ fault_from [] all) (sym same) (sym on ∙ e))

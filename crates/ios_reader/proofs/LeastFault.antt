@@ -49,8 +49,10 @@ fewer_unknown false taken none more e = refl
 fewer_unknown true true none more e = e
 fewer_unknown true false none more e = absurd cc
 
-fewer : (takes : IosForm → Bool) (facts : Facts) (before : Before) (form : IosForm) (cause : Cause) → is_fault takes facts before form cause ≡ false → is_fault all_forms facts before form cause ≡ false
-fewer takes facts before form UnknownForm e = fewer_unknown (is_reached facts before form) (takes form) (has_no_form form) (passes (λ line. has_line_cause facts before line UnknownForm) (line_in form)) e
+fewer : (takes : IosForm → Bool) (facts : Facts) (before : Before) (form : IosForm) (cause : Cause) → is_fault takes facts before form cause ≡ false
+    → is_fault all_forms facts before form cause ≡ false
+fewer takes facts before form UnknownForm e =
+    fewer_unknown (is_reached facts before form) (takes form) (has_no_form form) (passes (λ line. has_line_cause facts before line UnknownForm) (line_in form)) e
 fewer takes facts before form _ e = e
 
 -- a policy that is defined and has no fault among the forms that are taken is in profile

@@ -53,39 +53,32 @@ kinds_len kinds _ = refl
 -- ---- one more item
 
 module _ (name : List ℕ) (before : List IosItem) (place next : Place) (marks more : Marks) (i : IosItem) (behind : IsBehind name before place marks) (keeps : KeepsMark marks more i) where
+  one_more : next.inside ≡ is_inside name (i ∷ before) → option_map (λ h. h.now) next.header ≡ open_header (i ∷ before) → ((k : ℕ) → has_kind next.kinds k ≡ among k (open_lines (i ∷ before)))
+      → length next.kinds ≡ 15 → IsBehind name (i ∷ before) next more
+  one_more inside header kinds len = record {
+    tells = λ j. record {
+      inside = inside j;
+      header = header j;
+      kinds = λ k. kinds k j;
+      marked = λ sort q n. (keeps q (sort_code sort) n ∙ ap (λ (b : Before). is_marked q (sort_code sort) n i.form || b.marked sort q n) behind.tells) j;
+    };
+    len = len;
+  }
+
   -- behind a line
   pub behind_line : is_line i ≡ true → next.inside ≡ place.inside → option_map (λ h. h.now) next.header ≡ option_map (λ h. h.now) place.header → next.kinds ≡ kinds_with place.kinds i.form
       → IfSome (line_in i.form) (λ l. kind_of l < 15) → IsBehind name (i ∷ before) next more
   behind_line line inside header kinds within =
-      let same : next.inside ≡ is_inside name (i ∷ before) = rw (is_inside, line) (inside ∙ ap (λ (b : Before). b.inside) behind.tells) in
-      let head : option_map (λ h. h.now) next.header ≡ open_header (i ∷ before) = rw (open_header, line) (header ∙ ap (λ (b : Before). b.header) behind.tells) in
-      let kind : (k : ℕ) → has_kind next.kinds k ≡ among k (open_lines (i ∷ before)) =
-      λ k. rw (open_lines, line) (ap (λ (ks : List Bool). has_kind ks k) kinds ∙ kinds_more place.kinds (open_lines before) i.form behind.len within (λ k. ap (λ (b : Before). b.kinds k) behind.tells) k) in
-      record {
-        tells = λ j. record {
-          inside = same j;
-          header = head j;
-          kinds = λ k. kind k j;
-          marked = λ sort q n. (keeps q (sort_code sort) n ∙ ap (λ (b : Before). is_marked q (sort_code sort) n i.form || b.marked sort q n) behind.tells) j;
-        };
-        len = ap (λ (ks : List Bool). length ks) kinds ∙ kinds_len place.kinds i.form ∙ behind.len;
-      }
+      let more_kinds : (k : ℕ) → has_kind (kinds_with place.kinds i.form) k ≡ among k (onto_lines i.form (open_lines before)) =
+      kinds_more place.kinds (open_lines before) i.form behind.len within (λ k. ap (λ (b : Before). b.kinds k) behind.tells) in
+      one_more (rw (is_inside, line) (inside ∙ ap (λ (b : Before). b.inside) behind.tells)) (rw (open_header, line) (header ∙ ap (λ (b : Before). b.header) behind.tells))
+      (λ k. rw (open_lines, line) (ap (λ (ks : List Bool). has_kind ks k) kinds ∙ more_kinds k)) (ap (λ (ks : List Bool). length ks) kinds ∙ kinds_len place.kinds i.form ∙ behind.len)
 
   -- behind any other item
   pub behind_other : is_line i ≡ false → next.inside ≡ heads name i → option_map (λ h. h.now) next.header ≡ header_in i.form → next.kinds ≡ no_kinds → IsBehind name (i ∷ before) next more
   behind_other line inside header kinds =
-      let same : next.inside ≡ is_inside name (i ∷ before) = rw (is_inside, line) inside in
-      let head : option_map (λ h. h.now) next.header ≡ open_header (i ∷ before) = rw (open_header, line) header in
-      let kind : (k : ℕ) → has_kind next.kinds k ≡ among k (open_lines (i ∷ before)) = λ k. rw (open_lines, line) (ap (λ (ks : List Bool). has_kind ks k) kinds ∙ no_kind k) in
-      record {
-        tells = λ j. record {
-          inside = same j;
-          header = head j;
-          kinds = λ k. kind k j;
-          marked = λ sort q n. (keeps q (sort_code sort) n ∙ ap (λ (b : Before). is_marked q (sort_code sort) n i.form || b.marked sort q n) behind.tells) j;
-        };
-        len = ap (λ (ks : List Bool). length ks) kinds;
-      }
+      one_more (rw (is_inside, line) inside) (rw (open_header, line) header)
+      (λ k. rw (open_lines, line) (ap (λ (ks : List Bool). has_kind ks k) kinds ∙ no_kind k)) (ap (λ (ks : List Bool). length ks) kinds)
 
 -- before the first item
 pub nothing_before : (name : List ℕ) (place : Place) (marks : Marks) → place ≡ record { inside = false; header = None; kinds = no_kinds } → marks.keys ≡ [] → IsBehind name [] place marks

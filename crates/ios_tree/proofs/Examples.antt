@@ -1,9 +1,9 @@
 -- Worked examples that the checker computes.
 use Rattle.std.proofs.Common.{◌≡◌, refl, List, [], ◌∷◌, ◌++◌, ℕ, true, false, Option}
 use Rattle.std.specs.Prelude.{Some, None, codes, map}
-use Rattle.text_words.specs.Text.{lines_at}
 use Rattle.route_types.specs.Words.{number_in, prefix_in, parts_at, address_in, community_in}
-use Rattle.text_words.specs.IosCut.{ios_cut, words_at}
+use Rattle.text_words.specs.IosCut.{ios_cut}
+use Rattle.text_words.specs.LineCut.{line_cut, lines_from}
 use Rattle.policy_text.specs.Phrases.{after, each}
 use Rattle.ios_tree.specs.Forms.{prefix_list_in, map_header_in, match_prefix_in, match_next_hop_in, match_community_in, match_path_in, match_metric_in, match_line_in, set_value_in, set_list_in, set_local_preference_in, set_metric_in, set_weight_in, set_origin_in, set_next_hop_in, set_prepend_in, set_community_in, line_in}
 use Rattle.ios_tree.specs.Names.{list_name, community_word_in, shape_in}
@@ -27,7 +27,7 @@ lists : List ℕ
 lists = codes "ip prefix-list A permit 10.0.0.0/8" ++ (10 ∷ codes "ip prefix-list A seq 7 deny 10.0.0.0/9 le 24" ++ (10 ∷ codes "ip prefix-list A permit 10.0.0.0/9"))
 
 given : map (λ i. number i.form) (ios_tree lists) ≡ Some 5 ∷ Some 7 ∷ Some 12 ∷ []
-unfolding lists ios_tree ios_cut items_of form_of numbered_from words_at lines_at prefix_list_in after number_in prefix_in parts_at address_in
+unfolding lists ios_tree ios_cut items_of form_of numbered_from line_cut lines_from prefix_list_in after number_in prefix_in parts_at address_in
 given = refl
 
 -- a map's entry with its lines; a line where no entry is open belongs to nothing
@@ -39,7 +39,7 @@ reads : map (λ i. i.form) (ios_tree entry) ≡
     ∷ Line (MatchCommunity (record { lists = codes "A" ∷ []; exact = true }))
     ∷ Line (SetCommunity (record { communities = record { 0 = 4259905537 } ∷ record { 0 = 4294967041 } ∷ []; additive = true }))
     ∷ []
-unfolding entry ios_tree ios_cut items_of form_of numbered_from words_at lines_at map_header_in line_in match_line_in match_prefix_in match_next_hop_in match_community_in match_path_in match_metric_in set_value_in set_local_preference_in set_metric_in set_weight_in set_origin_in set_next_hop_in set_list_in set_prepend_in set_community_in after each number_in parts_at community_in
+unfolding entry ios_tree ios_cut items_of form_of numbered_from line_cut lines_from map_header_in line_in match_line_in match_prefix_in match_next_hop_in match_community_in match_path_in match_metric_in set_value_in set_local_preference_in set_metric_in set_weight_in set_origin_in set_next_hop_in set_list_in set_prepend_in set_community_in after each number_in parts_at community_in
 reads = refl
 
 -- `exact-match` alone behind the keyword is a name

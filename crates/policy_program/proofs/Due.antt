@@ -9,7 +9,7 @@ use Rattle.route_types.proofs.RouteSpelled.{not_both_of, spelled_or_refused}
 use Rattle.ios_tree.specs.Tree.{ios_tree}
 use Rattle.ios_tree.specs.declared.item.IosItem.{IosItem}
 use Rattle.ios_reader.specs.Profile.{is_defined, first_fault_within}
-use Rattle.ios_reader.proofs.Fewer.{is_in_profile}
+use Rattle.ios_reader.proofs.LeastFault.{is_in_profile}
 use Rattle.policy_program.specs.Source.{Taken, Dialect, Ios, Rpl, Source, Policy, OfIos, Load, Loaded, Broken, NoPolicy, Outside, LoadsIos, LoadsIn}
 use Rattle.policy_program.specs.Lines.{place_in}
 use Rattle.policy_program.specs.Answer.{Told, CannotRead, IsTooLong, IsBroken, HasNoPolicy, IsOutside, SpellsNoRoute, Answer, Result, Refusal, status_of, status_told}

@@ -10,7 +10,7 @@ use Rattle.policy_text.specs.declared.fault.CheckFault.TheVariants.{NoPolicy as 
 use Rattle.route_types.specs.Route.{RouteParts}
 use Rattle.ios_tree.specs.Tree.{ios_tree}
 use Rattle.ios_reader.specs.Profile.{PolicyParts}
-use Rattle.ios_meaning.specs.Meaning.{ios_meaning}
+use Rattle.ios_meaning.specs.Meaning.{ios_meaning, name_of}
 use Rattle.rpl_reader.specs.Written.{is_new_name}
 use Rattle.policy_program.specs.Source.{Taken, Rpl, Load, Loaded, NoPolicy, Outside, OfIos, Loads, ios_source}
 use Rattle.policy_program.specs.FirstForms.{is_first_form}
@@ -69,7 +69,7 @@ TellsLoad file policy text NotChecked fault = fault ≡ Memory
 
 -- the text says what the checked policy makes of the route
 abbrev pub TellsOutcome : PolicyParts → RouteParts → List ℕ → Type 0
-TellsOutcome checked r text = (name : List ℕ) → checked.names ≡ name ∷ [] → text ≡ outcome_text (ios_meaning checked.items name r)
+TellsOutcome checked r text = text ≡ outcome_text (ios_meaning checked.items (name_of checked) r)
 
 -- the answer is right on these texts, or it is want of memory
 abbrev pub AnswersOn : Request → List (List ℕ) → Outcome Output Fault → Type 0

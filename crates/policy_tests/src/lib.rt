@@ -5,6 +5,8 @@
 #[cfg(test)]
 mod causes;
 #[cfg(test)]
+mod community_changes;
+#[cfg(test)]
 mod customer;
 #[cfg(test)]
 mod diagrams;

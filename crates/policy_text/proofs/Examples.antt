@@ -1,26 +1,8 @@
 -- Worked examples that the checker computes.
 use Rattle.std.proofs.Common.{◌≡◌, refl, List, [], ◌∷◌, ◌++◌, ℕ, map}
 use Rattle.std.specs.Prelude.{Some, None, codes}
-use Rattle.text_words.specs.Text.{lines_at}
 use Rattle.route_types.specs.Words.{number_in}
-use Rattle.text_words.specs.IosCut.{ios_cut, words_at}
 use Rattle.policy_text.specs.Phrases.{texts, after, only, each, some_each, name_in, optional_at}
-
--- a comment, a line in the first column and one behind a blank, with CR LF
-abbrev sample : List ℕ
-sample = codes "! R1" ++ (10 ∷ codes "route-map IN permit 10" ++ (13 ∷ 10 ∷ codes "  set metric 5" ++ (10 ∷ [])))
-
-cut_texts : map (λ s. texts s.words) (ios_cut sample) ≡ (codes "route-map" ∷ codes "IN" ∷ codes "permit" ∷ codes "10" ∷ []) ∷ (codes "set" ∷ codes "metric" ∷ codes "5" ∷ []) ∷ []
-unfolding ios_cut words_at lines_at
-cut_texts = refl
-
-cut_depths : map (λ s. s.depth) (ios_cut sample) ≡ 0 ∷ 1 ∷ []
-unfolding ios_cut words_at lines_at
-cut_depths = refl
-
-cut_spans : map {B = ℕ × ℕ} (λ s. (s.span.start, s.span.end)) (ios_cut sample) ≡ (5, 27) ∷ (31, 43) ∷ []
-unfolding ios_cut words_at lines_at
-cut_spans = refl
 
 behind : after (codes "set" ∷ codes "metric" ∷ []) (codes "set" ∷ codes "metric" ∷ codes "5" ∷ []) ≡ Some (codes "5" ∷ [])
 unfolding after

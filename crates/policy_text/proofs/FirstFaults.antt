@@ -119,7 +119,8 @@ module _ (I : Type 0) (span_of : I → Span) (holds : Rules I) (all : List I) wh
     rise_behind [] rest rise = rise
     rise_behind (i ∷ before) rest rise = (rise_behind before (i ∷ rest) rise).1
 
-    one_on : (i : I) (rest : List I) (c : Option Cause) (more : Option (Span × Cause)) → Rise span_of (i ∷ rest) → fault_or c (span_of i) more ≡ Some (span, cause) → (more ≡ Some (span, cause)) ⊎ IsBelow rest
+    one_on : (i : I) (rest : List I) (c : Option Cause) (more : Option (Span × Cause)) → Rise span_of (i ∷ rest) → fault_or c (span_of i) more ≡ Some (span, cause)
+        → (more ≡ Some (span, cause)) ⊎ IsBelow rest
     one_on i rest None more rise e = inl e
     one_on i rest (Some d) more rise e = inr (subst (λ (s : Span). AllByRecursion (λ j. s.start < (span_of j).start) rest) (ap (λ (f : Span × Cause). f.0) (same_Some (span_of i, d) (span, cause) e)) rise.0)
 
@@ -146,7 +147,8 @@ module _ (I : Type 0) (span_of : I → Span) (holds : Rules I) (all : List I) wh
       | inr below ↦ omega (arith, below.0)
     ]
       where
-        of_cause : (c : Option Cause) → first_cause (holds p.before p.item) ≡ c → fault_or c (span_of p.item) (first_fault_from span_of holds (p.item ∷ p.before) p.rest) ≡ Some (span, cause) → span.start ≤ (span_of p.item).start
+        of_cause : (c : Option Cause) → first_cause (holds p.before p.item) ≡ c → fault_or c (span_of p.item) (first_fault_from span_of holds (p.item ∷ p.before) p.rest) ≡ Some (span, cause)
+            → span.start ≤ (span_of p.item).start
         of_cause None is e = absurd (let no : holds p.before p.item other ≡ false = none_holds (holds p.before p.item) is other in cc)
         of_cause (Some d) is e = let same : span_of p.item ≡ span = ap (λ (f : Span × Cause). f.0) (same_Some (span_of p.item, d) (span, cause) e) in rw same (omega arith)
 

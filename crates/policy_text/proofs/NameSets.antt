@@ -49,15 +49,21 @@ turned true false false = refl
 turned false b true = sym (and_none b)
 turned false b false = refl
 
+-- the order of two keys: by the name, the sort and the number
+abbrev key_order : List ℕ → ℕ → ℕ → Bor (List ℕ) × ℕ × ℕ → Ordering
+key_order name sort number k = ordering_then (ordering_then (slice_cmp nat_cmp name k.0.now) (nat_cmp sort k.1)) (nat_cmp number k.2)
+
 abbrev Keys : Type 0
 Keys = BTreeSet (Bor (List ℕ) × ℕ × ℕ)
 
 -- a name that was put into a set
-pub name_added : (bs : List ℕ) (sort number : ℕ) (old new : Keys) → UpdatesBy (λ x y. ordering_then (ordering_then (slice_cmp nat_cmp x.0.now y.0.now) (nat_cmp x.1 y.1)) (nat_cmp x.2 y.2)) (λ k. ordering_then (ordering_then (slice_cmp nat_cmp bs k.0.now) (nat_cmp sort k.1)) (nat_cmp number k.2)) old new true
+pub name_added : (bs : List ℕ) (sort number : ℕ) (old new : Keys) → UpdatesBy (λ x y. key_order x.0.now x.1 x.2 y) (key_order bs sort number) old new true
     → (q : List ℕ) (s n : ℕ) → has_name new q s n ≡ (is_key q s n bs sort number || has_name old q s n)
 name_added bs sort number old new h q s n =
-    let at : has_name new q s n ≡ cond (is_eq (ordering_then (ordering_then (slice_cmp nat_cmp bs q) (nat_cmp sort s)) (nat_cmp number n))) true (has_name old q s n) = h.0 (record { ref_ptr = (0, 0); now = q }, s, n) in
-    let test : is_eq (ordering_then (ordering_then (slice_cmp nat_cmp bs q) (nat_cmp sort s)) (nat_cmp number n)) ≡ is_key q s n bs sort number =
+    let key : Bor (List ℕ) × ℕ × ℕ = (record { ref_ptr = (0, 0); now = q }, s, n) in
+    let at : has_name new q s n ≡ cond (is_eq (key_order bs sort number key)) true (has_name old q s n) = h.0 key in
+    let names : is_eq (slice_cmp nat_cmp bs q) ≡ bytes_eq q bs = is_eq-slice_cmp bs q ∙ bytes_sym bs q in
+    let test : is_eq (key_order bs sort number key) ≡ is_key q s n bs sort number =
     both_equal (ordering_then (slice_cmp nat_cmp bs q) (nat_cmp sort s)) (nat_cmp number n)
-    ∙ rw (both_equal (slice_cmp nat_cmp bs q) (nat_cmp sort s), numbers_equal number n, numbers_equal sort s, is_eq-slice_cmp bs q ∙ bytes_sym bs q) (turned (bytes_eq q bs) (s == sort) (n == number)) in
+    ∙ rw (both_equal (slice_cmp nat_cmp bs q) (nat_cmp sort s), numbers_equal number n, numbers_equal sort s, names) (turned (bytes_eq q bs) (s == sort) (n == number)) in
     at ∙ ap (λ (b : Bool). cond b true (has_name old q s n)) test ∙ or_from_cond (is_key q s n bs sort number) (has_name old q s n)

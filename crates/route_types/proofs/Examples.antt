@@ -1,13 +1,8 @@
 -- Worked examples that the checker computes.
-use Rattle.std.proofs.Common.{◌≡◌, refl, [], ◌∷◌, ◌++◌, map}
+use Rattle.std.proofs.Common.{◌≡◌, refl}
 use Rattle.std.specs.Prelude.{Some, None, codes}
-use Rattle.text_words.specs.Text.{lines_at}
 use Rattle.route_types.specs.Words.{number_in, prefix_in, parts_at, address_in, community_in}
 use Rattle.route_types.specs.declared.address.Family.TheVariants.{V4}
-
-two_lines : map (λ l. l.bytes) (lines_at 0 (codes "a" ++ (13 ∷ 10 ∷ codes "bc" ++ (13 ∷ [])))) ≡ codes "a" ∷ (codes "bc" ++ (13 ∷ [])) ∷ []
-unfolding lines_at
-two_lines = refl
 
 number : number_in 32 (codes "24") ≡ Some 24
 unfolding number_in

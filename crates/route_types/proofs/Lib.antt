@@ -8,11 +8,8 @@ pub mod Printed
 pub mod Bits
 pub mod Sets
 pub mod Sorted
-pub mod LineWords
-pub mod FileLines
-pub mod EachWord
+pub mod Found
 pub mod RouteWords
 pub mod RouteSpelled
 pub mod RoutePrinted
-pub mod PrintedLines
 pub mod RouteRange

@@ -1,11 +1,11 @@
 -- Worked examples of route texts that the checker computes.
 use Rattle.std.proofs.Common.{◌≡◌, refl, ℕ, List, [], ◌∷◌, ◌++◌}
 use Rattle.std.specs.Prelude.{Ok, Err, codes}
-use Rattle.text_words.specs.Text.{lines_at}
+use Rattle.text_words.specs.LineCut.{line_cut, lines_from}
 use Rattle.route_types.specs.Words.{number_in, prefix_in, parts_at, address_in, community_in}
-use Rattle.route_types.specs.RouteText.{file_lines, words_in, words_by_line}
+use Rattle.route_types.specs.RouteText.{words_by_line}
 use Rattle.route_types.specs.RouteLines.{word_in, each_in, next_hop_in, origin_in}
-use Rattle.route_types.specs.RouteRead.{route_in}
+use Rattle.route_types.specs.RouteRead.{route_of, route_in}
 use Rattle.route_types.specs.declared.address.Family.TheVariants.{V4}
 use Rattle.route_types.specs.declared.route.NextHop.TheVariants.{At, Own}
 use Rattle.route_types.specs.declared.route.Origin.TheVariants.{Igp, Egp}
@@ -19,19 +19,6 @@ abbrev seven : List ℕ
 seven =
     line (codes "route 10.0.0.0/8") ++ line (codes "next-hop self") ++ line (codes "as-path") ++ line (codes "origin igp")
     ++ line (codes "local-preference 100") ++ line (codes "med 0") ++ line (codes "weight 0")
-
--- a last LF begins no line, and one more LF ends an empty one
-last_line_end : file_lines (codes "a" ++ 10 ∷ []) ≡ codes "a" ∷ []
-unfolding lines_at
-last_line_end = refl
-
-empty_last_line : file_lines (codes "a" ++ 10 ∷ 10 ∷ []) ≡ codes "a" ∷ [] ∷ []
-unfolding lines_at
-empty_last_line = refl
-
-words : words_in (32 ∷ codes "med" ++ 9 ∷ 32 ∷ codes "7" ++ 32 ∷ []) ≡ codes "med" ∷ codes "7" ∷ []
-unfolding words_in
-words = refl
 
 -- odd blanks, a CR before an LF, no last LF, host bits, communities out of order and repeated
 spelled : route_in (
@@ -48,7 +35,7 @@ spelled : route_in (
       weight = 65535;
       communities = record { 0 = 4259905537 } ∷ record { 0 = 4259905541 } ∷ record { 0 = 4259971073 } ∷ [];
     })
-unfolding route_in words_by_line lines_at words_in word_in each_in next_hop_in origin_in number_in address_in prefix_in community_in parts_at
+unfolding route_in route_of words_by_line line_cut lines_from word_in each_in next_hop_in origin_in number_in address_in prefix_in community_in parts_at
 spelled = refl
 
 no_communities : route_in (seven ++ codes "communities")
@@ -62,22 +49,22 @@ no_communities : route_in (seven ++ codes "communities")
       weight = 0;
       communities = [];
     })
-unfolding route_in words_by_line lines_at words_in word_in each_in next_hop_in origin_in number_in address_in prefix_in community_in parts_at
+unfolding route_in route_of words_by_line line_cut lines_from word_in each_in next_hop_in origin_in number_in address_in prefix_in community_in parts_at
 no_communities = refl
 
 empty_text : route_in [] ≡ Err 1
-unfolding route_in words_by_line lines_at
+unfolding route_in route_of words_by_line line_cut lines_from
 empty_text = refl
 
 missing_line : route_in seven ≡ Err 8
-unfolding route_in words_by_line lines_at words_in word_in each_in next_hop_in origin_in number_in address_in prefix_in community_in parts_at
+unfolding route_in route_of words_by_line line_cut lines_from word_in each_in next_hop_in origin_in number_in address_in prefix_in community_in parts_at
 missing_line = refl
 
 ninth_line : route_in (seven ++ line (codes "communities") ++ 10 ∷ []) ≡ Err 9
-unfolding route_in words_by_line lines_at words_in word_in each_in next_hop_in origin_in number_in address_in prefix_in community_in parts_at
+unfolding route_in route_of words_by_line line_cut lines_from word_in each_in next_hop_in origin_in number_in address_in prefix_in community_in parts_at
 ninth_line = refl
 
 -- the second line is the first that is not the form, though the third is missing
 wrong_line : route_in (line (codes "route 10.0.0.0/8") ++ codes "next-hop 10.0.0") ≡ Err 2
-unfolding route_in words_by_line lines_at words_in word_in each_in next_hop_in origin_in number_in address_in prefix_in community_in parts_at
+unfolding route_in route_of words_by_line line_cut lines_from word_in each_in next_hop_in origin_in number_in address_in prefix_in community_in parts_at
 wrong_line = refl

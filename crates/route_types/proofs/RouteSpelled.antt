@@ -7,7 +7,7 @@ use Rattle.route_types.specs.Route.{RouteParts}
 use Rattle.route_types.specs.Words.{number_in, prefix_in, IsNumber, IsPrefix}
 use Rattle.route_types.specs.RouteText.{Each, LineKind, PrefixLine, NextHopLine, PathLine, OriginLine, LocalPreferenceLine, MedLine, WeightLine, CommunitiesLine, route_lines, words_by_line, IsOne, IsMany, IsCommunitySet, SpellsNextHop, SpellsOrigin, SpellsLine, SpellsRoute, IsLineForm, IsGoodLine, IsBadLine, IsFirstBad, IsFirstBadLine}
 use Rattle.route_types.specs.RouteLines.{next_hop_in, origin_in, prefix_of_line, next_hop_of_line, path_of_line, origin_of_line, number_of_line, communities_of_line}
-use Rattle.route_types.specs.RouteRead.{◌>>=◌, first_line, found, at_end, route_in, Answers, IsRefusal}
+use Rattle.route_types.specs.RouteRead.{◌>>=◌, first_line, found, at_end, route_of, route_in, Answers, IsRefusal}
 use Rattle.route_types.specs.declared.address.Family.TheVariants.{V4}
 use Rattle.route_types.specs.declared.route.NextHop.TheVariants.{Own}
 use Rattle.route_types.specs.declared.route.Origin.TheVariants.{Igp}
@@ -96,7 +96,7 @@ each_end : (r : RouteParts) (lines : List (List (List ℕ))) → lines ≡ [] �
 each_end r lines e = subst (λ (x : List (List (List ℕ))). Each (SpellsLine r) x []) (sym e) tt
 
 pub route_found : (text : List ℕ) (r : RouteParts) → route_in text ≡ Ok r → SpellsRoute text r
-unfolding route_in
+unfolding route_in route_of
 route_found text r e =
     let P : Type 0 = SpellsRoute text r in
     line_ok P 1 (words_by_line text) _ r e (λ w1 l1 i1 a1.
@@ -145,7 +145,7 @@ no_more r [] s = refl
 no_more r (w ∷ ls) s = absurd s
 
 pub route_again : (text : List ℕ) (r : RouteParts) → SpellsRoute text r → route_in text ≡ Ok r
-unfolding route_in
+unfolding route_in route_of
 route_again text r s =
     let a = split r (words_by_line text) _ _ s in
     let b = split r a.behind _ _ a.more in
@@ -211,7 +211,7 @@ end_bad n m x [] e = absurd cc
 end_bad n m x (w ∷ ls) e = (0, omega (arith, err_is {A = RouteParts} n m e), bad_more w ls)
 
 route_bad : (text : List ℕ) (m : ℕ) → route_in text ≡ Err m → BadFrom 1 (words_by_line text) route_lines m
-unfolding route_in
+unfolding route_in route_of
 route_bad text m e =
     line_bad 1 m (words_by_line text) _ _ _ e (λ w1 l1 a1. value_bad prefix_part w1 1 m l1 _ _ a1 (λ x1 b1.
     line_bad 2 m l1 _ _ _ b1 (λ w2 l2 a2. value_bad next_hop_part w2 2 m l2 _ _ a2 (λ x2 b2.

@@ -62,7 +62,8 @@ below_first_kept : {C : Type 0} (number : C → ℕ) (n : ℕ) (c : C) (cs : Lis
 below_first_kept number n c [] h b = h
 below_first_kept number n c (d ∷ ds) h b = below_first_at number n c d ds h b (cases_order (number c) (number d))
 
-ascending_at : {C : Type 0} (number : C → ℕ) (c d : C) (ds : List C) → IsAscendingBy number (d ∷ ds) → IsAscendingBy number (with_member_by number c ds) → Order (number c) (number d) → IsAscendingBy number (with_member_by number c (d ∷ ds))
+ascending_at : {C : Type 0} (number : C → ℕ) (c d : C) (ds : List C) → IsAscendingBy number (d ∷ ds) → IsAscendingBy number (with_member_by number c ds) → Order (number c) (number d)
+    → IsAscendingBy number (with_member_by number c (d ∷ ds))
 ascending_at number c d ds h more (inl e) = rw (put_there number c d ds e) h
 ascending_at number c d ds h more (inr (inl l)) = rw (put_before number c d ds l) (l, h)
 ascending_at number c d ds h more (inr (inr g)) =
@@ -132,7 +133,8 @@ apart a b e (inl l) = omega arith
 apart a b e (inr g) = omega arith
 
 -- the members behind the first
-same_behind : {C : Type 0} (number : C → ℕ) (n : ℕ) (x : C) (xs ys : List C) → IsAscendingBy number (x ∷ xs) → IsAscendingBy number (x ∷ ys) → has number n (x ∷ xs) ≡ has number n (x ∷ ys) → Order (number x) n → has number n xs ≡ has number n ys
+same_behind : {C : Type 0} (number : C → ℕ) (n : ℕ) (x : C) (xs ys : List C) → IsAscendingBy number (x ∷ xs) → IsAscendingBy number (x ∷ ys) → has number n (x ∷ xs) ≡ has number n (x ∷ ys)
+    → Order (number x) n → has number n xs ≡ has number n ys
 same_behind {C} number n x xs ys hx hy same (inl e) =
     let none : (zs : List C) → IsAscendingBy number (x ∷ zs) → has number (number x) zs ≡ false = λ zs h. has_none number (number x) zs (first_below number x zs h) (ascending_behind number x zs h) in
     subst (λ (m : ℕ). has number m xs ≡ has number m ys) e (none xs hx ∙ sym (none ys hy))
@@ -140,7 +142,8 @@ same_behind number n x xs ys hx hy same (inr o) =
     let f : (number x == n) ≡ false = ne_eqb (number x) n (λ (e : number x ≡ n). apart (number x) n e o) in
     sym (ap (λ (b : Bool). b || has number n xs) f) ∙ same ∙ ap (λ (b : Bool). b || has number n ys) f
 
-firsts_same : {C : Type 0} (number : C → ℕ) → Tells number → (x y : C) (xs ys : List C) → IsAscendingBy number (x ∷ xs) → IsAscendingBy number (y ∷ ys) → Alike number (x ∷ xs) (y ∷ ys) → (IsAscendingBy number ys → Alike number xs ys → xs ≡ ys) → Order (number x) (number y) → (x ∷ xs) ≡ (y ∷ ys)
+firsts_same : {C : Type 0} (number : C → ℕ) → Tells number → (x y : C) (xs ys : List C) → IsAscendingBy number (x ∷ xs) → IsAscendingBy number (y ∷ ys) → Alike number (x ∷ xs) (y ∷ ys)
+    → (IsAscendingBy number ys → Alike number xs ys → xs ≡ ys) → Order (number x) (number y) → (x ∷ xs) ≡ (y ∷ ys)
 firsts_same number tells x y xs ys hx hy same more (inr (inl l)) = absurd (first_least number x y xs ys hy (same (number x)) l)
 firsts_same number tells x y xs ys hx hy same more (inr (inr g)) = absurd (first_least number y x ys xs hx (sym (same (number y))) g)
 firsts_same {C} number tells x y xs ys hx hy same more (inl e) =
@@ -213,13 +216,15 @@ set_kept number tells p cs =
 
 -- ---- two changes one after the other
 
-both_by : {C : Type 0} (q : C → Bool) (c : C) (both first : List C) (a b d : Bool) → d ≡ (a || b) → q c ≡ not b → both ≡ filter q first → cond (not d) (c ∷ both) both ≡ filter q (cond (not a) (c ∷ first) first)
+both_by : {C : Type 0} (q : C → Bool) (c : C) (both first : List C) (a b d : Bool) → d ≡ (a || b) → q c ≡ not b → both ≡ filter q first
+    → cond (not d) (c ∷ both) both ≡ filter q (cond (not a) (c ∷ first) first)
 both_by {C} q c both first true b d e f more = ap (λ (x : Bool). cond (not x) (c ∷ both) both) e ∙ more
 both_by {C} q c both first false b d e f more =
     ap (λ (x : Bool). cond (not x) (c ∷ both) both) e ∙ ap (λ (xs : List C). cond (not b) (c ∷ xs) xs) more ∙ ap (λ (x : Bool). cond x (c ∷ filter q first) (filter q first)) (sym f)
 
 -- what fits neither of two lists of rectangles
-fits_neither : {R C : Type 0} (fits : R → C → Bool) (rs qs : List R) (cs : List C) → filter (λ c. not (fits_some fits (rs ++ qs) c)) cs ≡ filter (λ c. not (fits_some fits qs c)) (filter (λ c. not (fits_some fits rs c)) cs)
+fits_neither : {R C : Type 0} (fits : R → C → Bool) (rs qs : List R) (cs : List C)
+    → filter (λ c. not (fits_some fits (rs ++ qs) c)) cs ≡ filter (λ c. not (fits_some fits qs c)) (filter (λ c. not (fits_some fits rs c)) cs)
 fits_neither fits rs qs [] = refl
 fits_neither fits rs qs (c ∷ cs) =
     both_by (λ x. not (fits_some fits qs x)) c (filter (λ x. not (fits_some fits (rs ++ qs) x)) cs) (filter (λ x. not (fits_some fits rs x)) cs) (fits_some fits rs c) (fits_some fits qs c) (fits_some fits (rs ++ qs) c)

@@ -46,7 +46,8 @@ first_stays {C} same k (x ∷ xs) =
     ]
 
 dedup_step : {C : Type 0} (number : C → ℕ) → Tells number → (same : C → C → Bool) → TellsNumbers number same → (k x : C) (xs : List C) → IsRising number (k ∷ x ∷ xs)
-    → (IsRising number (k ∷ xs) → dedup same (k ∷ xs) ≡ set_by number (k ∷ xs)) → dedup same (x ∷ xs) ≡ set_by number (x ∷ xs) → Order (number x) (number k) → dedup same (k ∷ x ∷ xs) ≡ set_by number (k ∷ x ∷ xs)
+    → (IsRising number (k ∷ xs) → dedup same (k ∷ xs) ≡ set_by number (k ∷ xs)) → dedup same (x ∷ xs) ≡ set_by number (x ∷ xs) → Order (number x) (number k)
+    → dedup same (k ∷ x ∷ xs) ≡ set_by number (k ∷ x ∷ xs)
 dedup_step {C} number tells same law k x xs h here behind (inl e) =
     let c : x ≡ k = tells x k e in
     ap (λ (b : Bool). cond b (dedup same (k ∷ xs)) (k ∷ dedup same (x ∷ xs))) (law x k ∙ eq-eqb (number x) (number k) e)
@@ -61,7 +62,8 @@ dedup_step {C} number tells same law k x xs h here behind (inr (inr g)) =
     ∙ sym (put_before number k x f.0 g)
     ∙ ap (λ (z : List C). with_member_by number k z) (sym f.1 ∙ behind)
 
-dedup_rising : {C : Type 0} (number : C → ℕ) → Tells number → (same : C → C → Bool) → TellsNumbers number same → (k : C) (cs : List C) → IsRising number (k ∷ cs) → dedup same (k ∷ cs) ≡ set_by number (k ∷ cs)
+dedup_rising : {C : Type 0} (number : C → ℕ) → Tells number → (same : C → C → Bool) → TellsNumbers number same → (k : C) (cs : List C) → IsRising number (k ∷ cs)
+    → dedup same (k ∷ cs) ≡ set_by number (k ∷ cs)
 dedup_rising number tells same law k [] h = refl
 dedup_rising number tells same law k (x ∷ xs) h =
     dedup_step number tells same law k x xs h (dedup_rising number tells same law k xs) (dedup_rising number tells same law x xs h.1) (cases_order (number x) (number k))
@@ -71,7 +73,8 @@ dedup_sorted number tells same law [] h = refl
 dedup_sorted number tells same law (c ∷ cs) h = dedup_rising number tells same law c cs h
 
 -- a list, sorted and without its repeats, is its set
-pub dedup_is_set : {C : Type 0} (number : C → ℕ) → Tells number → (same : C → C → Bool) → TellsNumbers number same → (old sorted new : List C) → IsPermutation old sorted → IsSortedByKey number nat_cmp sorted → new ≡ dedup same sorted
+pub dedup_is_set : {C : Type 0} (number : C → ℕ) → Tells number → (same : C → C → Bool) → TellsNumbers number same → (old sorted new : List C) → IsPermutation old sorted
+    → IsSortedByKey number nat_cmp sorted → new ≡ dedup same sorted
     → new ≡ set_by number old
 dedup_is_set number tells same law old sorted new moved s e =
     e ∙ dedup_sorted number tells same law sorted (rising number sorted (IsNonDecreasingBy-from_sort number sorted s)) ∙ sym (set_permuted number tells old sorted moved)

@@ -1,7 +1,5 @@
 -- What each line of a route's text says, as functions that find it in the line's words.
-use Rattle.std.specs.Prelude.{ℕ, true, false, not, List, [], ◌∷◌, Option, Some, None, bytes_eq, codes}
-use Rattle.std.specs.List.{position_or_len}
-use Rattle.text_words.specs.Text.{is_blank}
+use Rattle.std.specs.Prelude.{ℕ, true, false, List, [], ◌∷◌, Option, Some, None, bytes_eq, codes}
 use Rattle.route_types.specs.Address.{PrefixParts}
 use Rattle.route_types.specs.Words.{when, number_in, address_in, prefix_in, community_in, ◌>>=◌}
 use Rattle.route_types.specs.Community.{set_of}
@@ -10,14 +8,6 @@ use Rattle.route_types.specs.declared.route.NextHop.{NextHop}
 use Rattle.route_types.specs.declared.route.NextHop.TheVariants.{At, Own}
 use Rattle.route_types.specs.declared.route.Origin.{Origin}
 use Rattle.route_types.specs.declared.route.Origin.TheVariants.{Igp, Egp, Incomplete}
-
--- how long the first word of a text is that starts with it
-abbrev pub word_size : List ℕ → ℕ
-word_size text = position_or_len is_blank text
-
--- how many blanks stand in front
-abbrev pub blanks : List ℕ → ℕ
-blanks line = position_or_len (λ c. not (is_blank c)) line
 
 -- the words behind the name
 abbrev pub words_behind : List ℕ → List (List ℕ) → Option (List (List ℕ))

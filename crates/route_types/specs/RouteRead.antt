@@ -27,10 +27,10 @@ abbrev pub at_end : {A : Type 0} → ℕ → A → List (List (List ℕ)) → Re
 at_end n x [] = Ok x
 at_end n x (l ∷ ls) = Err n
 
--- the route that a text spells, or the number of the first line that is not the form
-unfoldable pub route_in : List ℕ → Result RouteParts ℕ
-route_in text = do
-  one ← first_line 1 (words_by_line text)
+-- the route that lines of words spell, or the number of the first line that is not the form
+unfoldable pub route_of : List (List (List ℕ)) → Result RouteParts ℕ
+route_of lines = do
+  one ← first_line 1 lines
   prefix ← found 1 (prefix_of_line one.0)
   two ← first_line 2 one.1
   next_hop ← found 2 (next_hop_of_line two.0)
@@ -56,6 +56,10 @@ route_in text = do
     weight = weight;
     communities = communities;
   }) eight.1
+
+-- the route that a text spells, or the number of the first line that is not the form
+unfoldable pub route_in : List ℕ → Result RouteParts ℕ
+route_in text = route_of (words_by_line text)
 
 -- a program's answer is the value or the number; want of memory may come at any time
 abbrev pub Answers : {A B : Type 0} → (A → B) → Result A RouteFault → Result B ℕ → Type 0

@@ -1,6 +1,7 @@
 -- The text of a route: eight lines, their words, and what each line says of the route.
-use Rattle.std.specs.Prelude.{◌≡◌, ℕ, ◌+◌, ◌/◌, ◌%◌, ◌^◌, ◌<◌, Bool, true, false, not, List, [], ◌∷◌, ◌++◌, map, flat_map, Option, Some, None, slice_get, codes, decimal}
-use Rattle.text_words.specs.Text.{is_blank, lines_at}
+use Rattle.std.specs.Prelude.{◌≡◌, ℕ, ◌+◌, ◌/◌, ◌%◌, ◌^◌, ◌<◌, List, [], ◌∷◌, ◌++◌, map, Option, Some, None, slice_get, codes, decimal}
+use Rattle.text_words.specs.LineCut.{line_cut}
+use Rattle.text_words.specs.LineText.{words_of_lines, text_of_lines}
 use Rattle.route_types.specs.Words.{IsNumber, IsAddress, IsPrefix, IsCommunity}
 use Rattle.route_types.specs.Print.{address_text, prefix_text}
 use Rattle.route_types.specs.Route.{RouteParts}
@@ -11,45 +12,14 @@ use Rattle.route_types.specs.declared.route.NextHop.TheVariants.{At, Own}
 use Rattle.route_types.specs.declared.route.Origin.{Origin}
 use Rattle.route_types.specs.declared.route.Origin.TheVariants.{Igp, Egp, Incomplete}
 
--- ---- the lines of a file and the words of a line
-
--- the pieces without an empty one at the end
-abbrev pub without_empty_end : List (List ℕ) → List (List ℕ)
-without_empty_end [] = []
-without_empty_end ([] ∷ []) = []
-without_empty_end ((c ∷ cs) ∷ []) = (c ∷ cs) ∷ []
-without_empty_end (l ∷ m ∷ ls) = l ∷ without_empty_end (m ∷ ls)
-
--- the lines of a file: the last LF is optional, so it ends a line and begins none
-abbrev pub file_lines : List ℕ → List (List ℕ)
-file_lines text = without_empty_end (map (λ l. l.bytes) (lines_at 0 text))
-
--- the first byte goes on with a word
-abbrev pub goes_on : List ℕ → Bool
-goes_on [] = false
-goes_on (c ∷ cs) = not (is_blank c)
+-- the words of each line of a file; the last LF is optional, so it ends a line and begins none
+unfoldable pub words_by_line : List ℕ → List (List (List ℕ))
+words_by_line text = words_of_lines (line_cut text)
 
 -- the first word has one more byte in front
 abbrev pub onto_word : ℕ → List (List ℕ) → List (List ℕ)
 onto_word c [] = (c ∷ []) ∷ []
 onto_word c (w ∷ ws) = (c ∷ w) ∷ ws
-
--- a byte before the words behind it: a blank belongs to none, and any other byte to the word that
--- goes on behind it, or else is a word
-abbrev pub words_from_byte : ℕ → List ℕ → List (List ℕ) → List (List ℕ)
-words_from_byte c behind rest = elim (is_blank c) [
-  | true ↦ rest
-  | false ↦ elim (goes_on behind) [ true ↦ onto_word c rest | false ↦ (c ∷ []) ∷ rest ]
-]
-
--- the words of a line: the runs of bytes that are no blanks
-unfoldable pub words_in : List ℕ → List (List ℕ)
-words_in [] = []
-words_in (c ∷ cs) = words_from_byte c cs (words_in cs)
-
--- the words of each line of a file
-unfoldable pub words_by_line : List ℕ → List (List (List ℕ))
-words_by_line text = map words_in (file_lines text)
 
 -- ---- what each line says
 
@@ -156,10 +126,6 @@ pub record IsFirstBadLine (text : List ℕ) (number : ℕ) : Type 0 where
 
 -- ---- the printed text
 
--- a line of a name and words, each behind one space
-abbrev pub line_text : List ℕ → List (List ℕ) → List ℕ
-line_text name words = name ++ (flat_map (λ w. 32 ∷ w) words ++ (10 ∷ []))
-
 -- the word of a next hop
 abbrev pub next_hop_text : NextHop → List ℕ
 next_hop_text (At a) = address_text a
@@ -169,14 +135,19 @@ next_hop_text Own = codes "self"
 abbrev pub community_text : Community → List ℕ
 community_text c = decimal (c.0 / 2 ^ 16) ++ (58 ∷ decimal (c.0 % 2 ^ 16))
 
+-- the words of the eight lines of a route
+unfoldable pub route_words : RouteParts → List (List (List ℕ))
+route_words r =
+    (codes "route" ∷ prefix_text r.prefix ∷ [])
+    ∷ (codes "next-hop" ∷ next_hop_text r.next_hop ∷ [])
+    ∷ (codes "as-path" ∷ map decimal r.path)
+    ∷ (codes "origin" ∷ origin_text r.origin ∷ [])
+    ∷ (codes "local-preference" ∷ decimal r.local_preference ∷ [])
+    ∷ (codes "med" ∷ decimal r.med ∷ [])
+    ∷ (codes "weight" ∷ decimal r.weight ∷ [])
+    ∷ (codes "communities" ∷ map community_text r.communities)
+    ∷ []
+
 -- the text of a route: single spaces, rising communities, and an LF behind each line
 unfoldable pub route_text : RouteParts → List ℕ
-route_text r =
-    line_text (codes "route") (prefix_text r.prefix ∷ [])
-    ++ (line_text (codes "next-hop") (next_hop_text r.next_hop ∷ [])
-    ++ (line_text (codes "as-path") (map decimal r.path)
-    ++ (line_text (codes "origin") (origin_text r.origin ∷ [])
-    ++ (line_text (codes "local-preference") (decimal r.local_preference ∷ [])
-    ++ (line_text (codes "med") (decimal r.med ∷ [])
-    ++ (line_text (codes "weight") (decimal r.weight ∷ [])
-    ++ line_text (codes "communities") (map community_text r.communities)))))))
+route_text r = text_of_lines (route_words r)

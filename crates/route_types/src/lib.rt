@@ -29,8 +29,3 @@ pub use route_print::print_route;
 pub use route_text::read_route;
 pub use text_words::{Memory, Row};
 pub use words::{read_address, read_community, read_number, read_prefix};
-
-#[cfg(test)]
-mod route_tests;
-#[cfg(test)]
-mod tests;

@@ -1,25 +1,27 @@
 ghost use Rattle.std.specs.Prelude.{◌≡◌, vec_items, option_map, codes, IfOk, IfErr, IfSome};
 ghost use Rattle.route_types.specs.Words.{number_in, community_in};
 ghost use Rattle.route_types.specs.Community.{IsAscending};
-ghost use Rattle.route_types.specs.RouteText.{words_in, words_by_line, SpellsRoute};
+ghost use Rattle.text_words.specs.Pieces.{texts};
+ghost use Rattle.text_words.specs.LineText.{words_of_lines};
+ghost use Rattle.route_types.specs.RouteText.{words_by_line, SpellsRoute};
 ghost use Rattle.route_types.specs.RouteLines.{next_hop_in, origin_in, each_in, prefix_of_line, next_hop_of_line, origin_of_line, path_of_line, number_of_line, communities_of_line};
-ghost use Rattle.route_types.specs.RouteRead.{Answers, first_line, found, route_in, IsRefusal};
+ghost use Rattle.route_types.specs.RouteRead.{Answers, first_line, found, at_end, route_of, route_in, IsRefusal};
 
 use crate::address::Prefix;
 use crate::community::{Community, set_of};
 use crate::fault::RouteFault;
-use crate::line_words::{behind, next_line, next_word, word_behind};
+use crate::line_words::{word_behind, words_behind};
 use crate::route::{NextHop, Origin, Route};
 use crate::words::{read_address, read_community, read_number, read_prefix};
 use std::alloc::Global;
-use text_words::{Memory, Row};
+use text_words::{Memory, Row, Statement, Word, line_statements};
 
 // ---- what a line says
 
-fn prefix_of(line: &[u8]) -> Option<Prefix>
-    ensures { result ≡ prefix_of_line (words_in line.now) }
+fn prefix_of(words: &[Word]) -> Option<Prefix>
+    ensures { result ≡ prefix_of_line (texts words.now) }
 {
-    let word = word_behind(line, b"route")?;
+    let word = word_behind(words, b"route")?;
     read_prefix(word)
 }
 
@@ -34,10 +36,10 @@ fn next_hop_in(word: &[u8]) -> Option<NextHop>
     Some(NextHop::At(address))
 }
 
-fn next_hop_of(line: &[u8]) -> Option<NextHop>
-    ensures { result ≡ next_hop_of_line (words_in line.now) }
+fn next_hop_of(words: &[Word]) -> Option<NextHop>
+    ensures { result ≡ next_hop_of_line (texts words.now) }
 {
-    let word = word_behind(line, b"next-hop")?;
+    let word = word_behind(words, b"next-hop")?;
     next_hop_in(word)
 }
 
@@ -57,27 +59,27 @@ fn origin_in(word: &[u8]) -> Option<Origin>
     None
 }
 
-fn origin_of(line: &[u8]) -> Option<Origin>
-    ensures { result ≡ origin_of_line (words_in line.now) }
+fn origin_of(words: &[Word]) -> Option<Origin>
+    ensures { result ≡ origin_of_line (texts words.now) }
 {
-    let word = word_behind(line, b"origin")?;
+    let word = word_behind(words, b"origin")?;
     origin_in(word)
 }
 
 #[tactic(auto, using(crate::proofs::Numbers::number_in_within))]
-fn number_of(line: &[u8], name: &[u8]) -> Option<u32>
-    ensures { result ≡ number_of_line name.now 4294967295 (words_in line.now) }
+fn number_of(words: &[Word], name: &[u8]) -> Option<u32>
+    ensures { result ≡ number_of_line name.now 4294967295 (texts words.now) }
 {
-    let word = word_behind(line, name)?;
+    let word = word_behind(words, name)?;
     let number = read_number(word, 4294967295)?;
     Some(number as u32)
 }
 
 #[tactic(auto, using(crate::proofs::Numbers::number_in_within))]
-fn weight_of(line: &[u8]) -> Option<u16>
-    ensures { result ≡ number_of_line (codes "weight") 65535 (words_in line.now) }
+fn weight_of(words: &[Word]) -> Option<u16>
+    ensures { result ≡ number_of_line (codes "weight") 65535 (texts words.now) }
 {
-    let word = word_behind(line, b"weight")?;
+    let word = word_behind(words, b"weight")?;
     let number = read_number(word, 65535)?;
     Some(number as u16)
 }
@@ -91,55 +93,55 @@ fn number_in(word: &[u8]) -> Option<u32>
 }
 
 // The numbers that all the words spell. `None` where one spells none.
-fn numbers_in(alloc: Global, words: &[u8]) -> Result<Option<Row<u32>>, Memory>
-    ensures { IfOk result (λ o. o ≡ each_in (number_in 4294967295) (words_in words.now)) }
+fn numbers_in(alloc: Global, words: &[Word]) -> Result<Option<Row<u32>>, Memory>
+    ensures { IfOk result (λ o. o ≡ each_in (number_in 4294967295) (texts words.now)) }
 {
     let mut numbers = Row::new(alloc);
     let mut rest = words;
-    while let Some((word, after)) = next_word(rest) {
-        match number_in(word) {
+    while let [word, tail @ ..] = rest {
+        match number_in(word.text.as_slice()) {
             Some(number) => numbers.push(number)?,
             None => return Ok(None),
         }
-        rest = after;
+        rest = tail;
     }
     Ok(Some(numbers))
 }
 
-fn path_of(alloc: Global, line: &[u8]) -> Result<Option<Row<u32>>, Memory>
-    ensures { IfOk result (λ o. o ≡ path_of_line (words_in line.now)) }
+fn path_of(alloc: Global, words: &[Word]) -> Result<Option<Row<u32>>, Memory>
+    ensures { IfOk result (λ o. o ≡ path_of_line (texts words.now)) }
 {
-    match behind(line, b"as-path") {
-        Some(words) => numbers_in(alloc, words),
+    match words_behind(words, b"as-path") {
+        Some(behind) => numbers_in(alloc, behind),
         None => Ok(None),
     }
 }
 
 // The communities that all the words spell. `None` where one spells none.
-fn communities_in(alloc: Global, words: &[u8]) -> Result<Option<Vec<Community>>, Memory>
-    ensures { IfOk result (λ o. option_map vec_items o ≡ each_in community_in (words_in words.now)) }
+fn communities_in(alloc: Global, words: &[Word]) -> Result<Option<Vec<Community>>, Memory>
+    ensures { IfOk result (λ o. option_map vec_items o ≡ each_in community_in (texts words.now)) }
 {
     let mut communities = Vec::new(alloc);
     let mut rest = words;
-    while let Some((word, after)) = next_word(rest) {
-        match read_community(word) {
+    while let [word, tail @ ..] = rest {
+        match read_community(word.text.as_slice()) {
             Some(community) => communities.push(community)?,
             None => return Ok(None),
         }
-        rest = after;
+        rest = tail;
     }
     Ok(Some(communities))
 }
 
 #[tactic(auto, using(crate::proofs::Sets::is_ascending_set))]
-fn communities_of(alloc: Global, line: &[u8]) -> Result<Option<Row<Community>>, Memory>
+fn communities_of(alloc: Global, words: &[Word]) -> Result<Option<Row<Community>>, Memory>
     ensures ascending { IfOk result (λ o. IfSome o (λ set. IsAscending set)) }
-    ensures value { IfOk result (λ o. o ≡ communities_of_line (words_in line.now)) }
+    ensures value { IfOk result (λ o. o ≡ communities_of_line (texts words.now)) }
 {
-    let Some(words) = behind(line, b"communities") else {
+    let Some(behind) = words_behind(words, b"communities") else {
         return Ok(None);
     };
-    match communities_in(alloc, words)? {
+    match communities_in(alloc, behind)? {
         Some(listed) => Ok(Some(Row::from_vec(set_of(listed)))),
         None => Ok(None),
     }
@@ -147,13 +149,13 @@ fn communities_of(alloc: Global, line: &[u8]) -> Result<Option<Row<Community>>, 
 
 // ---- the lines in turn
 
-// The first line of a text, which has this number, and the text behind it.
-fn line(number: u64, text: &[u8]) -> Result<(&[u8], &[u8]), RouteFault>
-    ensures { Answers (λ p. (words_in p.0.now, words_by_line p.1.now)) result (first_line number (words_by_line text.now)) }
+// The words of the first line, which has this number, and the lines behind it.
+fn line(number: u64, lines: &[Statement]) -> Result<(&[Word], &[Statement]), RouteFault>
+    ensures { Answers (λ p. (texts p.0.now, words_of_lines p.1.now)) result (first_line number (words_of_lines lines.now)) }
 {
-    match next_line(text) {
-        Some(found) => Ok(found),
-        None => Err(RouteFault::Line { number }),
+    match lines {
+        [first, behind @ ..] => Ok((first.words.as_slice(), behind)),
+        [] => Err(RouteFault::Line { number }),
     }
 }
 
@@ -166,11 +168,21 @@ fn found<T: Drop>(number: u64, value: Option<T>) -> Result<T, RouteFault>
     }
 }
 
-#[tactic(auto, unfolding(crate::specs::RouteRead::route_in))]
-fn route_in(alloc: Global, text: &[u8]) -> Result<Route, RouteFault>
-    ensures { Answers (λ r. r) result (route_in text.now) }
+// The value, where there is no further line, which would have this number.
+fn at_end<T: Drop>(number: u64, value: T, lines: &[Statement]) -> Result<T, RouteFault>
+    ensures { Answers (λ x. x) result (at_end number value (words_of_lines lines.now)) }
 {
-    let (words, rest) = line(1, text)?;
+    match lines {
+        [] => Ok(value),
+        [_, ..] => Err(RouteFault::Line { number }),
+    }
+}
+
+#[tactic(auto, unfolding(crate::specs::RouteRead::route_of))]
+fn route_of(alloc: Global, lines: &[Statement]) -> Result<Route, RouteFault>
+    ensures { Answers (λ r. r) result (route_of (words_of_lines lines.now)) }
+{
+    let (words, rest) = line(1, lines)?;
     let prefix = found(1, prefix_of(words))?;
     let (words, rest) = line(2, rest)?;
     let next_hop = found(2, next_hop_of(words))?;
@@ -186,10 +198,7 @@ fn route_in(alloc: Global, text: &[u8]) -> Result<Route, RouteFault>
     let weight = found(7, weight_of(words))?;
     let (words, rest) = line(8, rest)?;
     let communities = found(8, communities_of(alloc, words)?)?;
-    if next_line(rest).is_some() {
-        return Err(RouteFault::Line { number: 9 });
-    }
-    Ok(Route {
+    let route = Route {
         prefix,
         next_hop,
         path,
@@ -198,7 +207,16 @@ fn route_in(alloc: Global, text: &[u8]) -> Result<Route, RouteFault>
         med,
         weight,
         communities,
-    })
+    };
+    at_end(9, route, rest)
+}
+
+#[tactic(auto, unfolding(crate::specs::RouteRead::route_in, crate::specs::RouteText::words_by_line))]
+fn route_in(alloc: Global, text: &[u8]) -> Result<Route, RouteFault>
+    ensures { Answers (λ r. r) result (route_in text.now) }
+{
+    let lines = line_statements(alloc, text)?;
+    route_of(alloc, lines.as_slice())
 }
 
 /// The route that a text spells: eight lines in this order, the last LF optional, a CR right before

@@ -2,15 +2,14 @@
 use Rattle.std.proofs.Common.{◌≡◌, refl, lit<, lit≤, List, [], ◌∷◌, ◌++◌, ℕ, true}
 use Rattle.std.specs.Prelude.{Some, None, codes, option_map}
 use Rattle.std.specs.Fmt.{digits}
-use Rattle.text_words.specs.Text.{lines_at}
+use Rattle.text_words.specs.RplWords.{has_quote, sort_at, lexemes}
+use Rattle.text_words.specs.RplCut.{taken, cut_from, rpl_cut}
 use Rattle.route_types.specs.Words.{number_in, prefix_in, parts_at, address_in}
 use Rattle.route_types.specs.Route.{RouteParts}
 use Rattle.route_types.specs.declared.address.Family.TheVariants.{V4}
 use Rattle.route_types.specs.declared.route.NextHop.TheVariants.{Own}
 use Rattle.route_types.specs.declared.route.Origin.TheVariants.{Igp}
 use Rattle.route_types.specs.declared.route.Outcome.TheVariants.{Reject, Accept}
-use Rattle.rpl_reader.specs.Words.{words_at}
-use Rattle.rpl_reader.specs.Cut.{rpl_cut, cut_from}
 use Rattle.rpl_reader.specs.Forms.{element_in, prefix_set_in, policy_header_in, if_in, set_in, single_word_in}
 use Rattle.rpl_reader.specs.Tree.{rpl_tree, items_of, is_whole, header_form, statement_form, forms}
 use Rattle.prefix_sets.specs.Range.{RangeParts}
@@ -39,17 +38,17 @@ abbrev route : ℕ → ℕ → RouteParts
 route bits length = record { prefix = record { address = record { family = V4; bits = bits }; length = length }; next_hop = Own; path = 65001 ∷ []; origin = Igp; local_preference = 100; med = 0; weight = 0; communities = [] }
 
 reads : option_map forms (rpl_tree sample) ≡ Some sample_forms
-unfolding rpl_tree items_of is_whole header_form statement_form rpl_cut cut_from words_at lines_at element_in prefix_set_in policy_header_in if_in set_in single_word_in number_in prefix_in parts_at address_in
+unfolding rpl_tree items_of is_whole header_form statement_form rpl_cut cut_from taken lexemes sort_at has_quote element_in prefix_set_in policy_header_in if_in set_in single_word_in number_in prefix_in parts_at address_in
 reads = refl
 
 -- a block without its end
 unended : option_map forms (rpl_tree (text (codes "prefix-set S" ∷ codes "10.0.0.0/8" ∷ []))) ≡ None
-unfolding rpl_tree items_of is_whole header_form statement_form rpl_cut cut_from words_at lines_at element_in prefix_set_in policy_header_in if_in set_in single_word_in number_in prefix_in parts_at address_in
+unfolding rpl_tree items_of is_whole header_form statement_form rpl_cut cut_from taken lexemes sort_at has_quote element_in prefix_set_in policy_header_in if_in set_in single_word_in number_in prefix_in parts_at address_in
 unended = refl
 
 -- a header is its line, whatever its words are
 named_pass : option_map forms (rpl_tree (text (codes "route-policy pass" ∷ codes "drop end-policy" ∷ []))) ≡ Some (RoutePolicy (codes "pass") ∷ Drop ∷ End ∷ [])
-unfolding rpl_tree items_of is_whole header_form statement_form rpl_cut cut_from words_at lines_at element_in prefix_set_in policy_header_in if_in set_in single_word_in number_in prefix_in parts_at address_in
+unfolding rpl_tree items_of is_whole header_form statement_form rpl_cut cut_from taken lexemes sort_at has_quote element_in prefix_set_in policy_header_in if_in set_in single_word_in number_in prefix_in parts_at address_in
 named_pass = refl
 
 accepts : rpl_meaning sample_forms (codes "P") (route 167837696 16) ≡ Accept (record (route 167837696 16) { local_preference = 200 })
@@ -73,7 +72,7 @@ unfolding digits policy_text steps_text actions_text preferences_text sets_text 
 written = refl
 
 read_again : option_map forms (rpl_tree (policy_text (codes "P") sample_sets sample_steps)) ≡ Some (policy_forms (codes "P") sample_sets sample_steps)
-unfolding digits policy_text steps_text actions_text preferences_text sets_text set_text elements_text element_text prefix_text policy_forms steps_forms actions_forms sets_forms set_forms rpl_tree items_of is_whole header_form statement_form rpl_cut cut_from words_at lines_at element_in prefix_set_in policy_header_in if_in set_in single_word_in number_in prefix_in parts_at address_in
+unfolding digits policy_text steps_text actions_text preferences_text sets_text set_text elements_text element_text prefix_text policy_forms steps_forms actions_forms sets_forms set_forms rpl_tree items_of is_whole header_form statement_form rpl_cut cut_from taken lexemes sort_at has_quote element_in prefix_set_in policy_header_in if_in set_in single_word_in number_in prefix_in parts_at address_in
 read_again = refl
 
 -- the sample can be written

@@ -1,5 +1,5 @@
 -- A written policy is in profile: no form of it has a cause, whether it is reached or not.
-use Rattle.std.proofs.Common.{◌≡◌, refl, sym, ap, subst, ◌∙◌, ℕ, zero, suc, ◌+◌, ◌-◌, ◌^◌, ◌<◌, ◌≤◌, Bool, true, false, ◌||◌, List, [], ◌∷◌, ◌++◌, length, map, append_assoc, append-nil, arith, Option, Some, None}
+use Rattle.std.proofs.Common.{◌≡◌, refl, sym, ap, subst, ◌∙◌, ℕ, zero, suc, ◌+◌, ◌^◌, ◌<◌, ◌≤◌, Bool, true, false, ◌||◌, List, [], ◌∷◌, ◌++◌, length, map, append_assoc, append-nil, arith, Option, Some, None}
 use Rattle.std.specs.Prelude.{bytes_eq, IfSome}
 use Rattle.std.specs.List.{list_any, list_all, AllByRecursion}
 use Rattle.std.proofs.lemmas.Bool.{and_parts, or_from, or_left, or_right}
@@ -7,11 +7,11 @@ use Rattle.std.proofs.lemmas.List.Folds.{list_any-append}
 use Rattle.prefix_sets.specs.Range.{RangeParts}
 use Rattle.policy_text.specs.declared.fault.Cause.{Cause}
 use Rattle.rpl_reader.specs.declared.item.RplForm.{RplForm}
-use Rattle.rpl_reader.specs.declared.item.RplForm.TheVariants.{PrefixSet, Element, RoutePolicy, If, EndIf, SetLocalPreference, Done, Drop, End, Other}
+use Rattle.rpl_reader.specs.declared.item.RplForm.TheVariants.{PrefixSet, Element, RoutePolicy, If, EndIf, SetLocalPreference, End, Other}
 use Rattle.rpl_reader.specs.declared.item.RplTest.{RplTest}
 use Rattle.rpl_reader.specs.declared.item.RplTest.TheVariants.{Destination}
 use Rattle.rpl_reader.specs.Layout.{Step, set_name, set_forms, sets_forms, verdict_form, actions_forms, steps_forms, policy_forms}
-use Rattle.rpl_reader.specs.Profile.{heads_set, heads_policy, reached, open_ifs, cause_at, InProfile}
+use Rattle.rpl_reader.specs.Profile.{heads_set, heads_policy, reached, ifs_after, open_ifs, cause_at, InProfile}
 use Rattle.rpl_reader.specs.Written.{IsWritable, IsPlainStep}
 use Rattle.rpl_reader.proofs.SetNames.{same_name, set_names_apart}
 
@@ -42,27 +42,17 @@ none_at all before (g ∷ gs) (x ∷ pre) f behind h e =
 -- forms that no cause looks at: neither a header nor a condition
 abbrev is_quiet : RplForm → Bool
 is_quiet (PrefixSet n) = false
-is_quiet (Element r) = true
 is_quiet (RoutePolicy n) = false
 is_quiet (If t) = false
-is_quiet EndIf = true
-is_quiet (SetLocalPreference n) = true
-is_quiet Done = true
-is_quiet Drop = true
-is_quiet End = true
 is_quiet (Other o) = false
+is_quiet _ = true
 
 quiet_sound : (all before : List RplForm) (f : RplForm) → is_quiet f ≡ true → cause_at all before f ≡ None
 quiet_sound all before (PrefixSet n) h = absurd cc
-quiet_sound all before (Element r) h = refl
 quiet_sound all before (RoutePolicy n) h = absurd cc
 quiet_sound all before (If t) h = absurd cc
-quiet_sound all before EndIf h = refl
-quiet_sound all before (SetLocalPreference n) h = refl
-quiet_sound all before Done h = refl
-quiet_sound all before Drop h = refl
-quiet_sound all before End h = refl
 quiet_sound all before (Other o) h = absurd cc
+quiet_sound all before _ h = refl
 
 quiet_clean : (all before fs : List RplForm) → list_all is_quiet fs ≡ true → Clean all before fs
 quiet_clean all before [] h = tt
@@ -83,16 +73,7 @@ quiet_elements (r ∷ rs) = quiet_elements rs
 
 open_join : (n : ℕ) (xs ys : List RplForm) → open_ifs n (xs ++ ys) ≡ open_ifs (open_ifs n xs) ys
 open_join n [] ys = refl
-open_join n (PrefixSet m ∷ xs) ys = open_join 0 xs ys
-open_join n (Element r ∷ xs) ys = open_join n xs ys
-open_join n (RoutePolicy m ∷ xs) ys = open_join 0 xs ys
-open_join n (If t ∷ xs) ys = open_join (n + 1) xs ys
-open_join n (EndIf ∷ xs) ys = open_join (n - 1) xs ys
-open_join n (SetLocalPreference m ∷ xs) ys = open_join n xs ys
-open_join n (Done ∷ xs) ys = open_join n xs ys
-open_join n (Drop ∷ xs) ys = open_join n xs ys
-open_join n (End ∷ xs) ys = open_join 0 xs ys
-open_join n (Other o ∷ xs) ys = open_join n xs ys
+open_join n (x ∷ xs) ys = open_join (ifs_after n x) xs ys
 
 open_actions : (n : ℕ) (ns : List ℕ) (accept : Bool) → open_ifs n (map SetLocalPreference ns ++ (verdict_form accept ∷ [])) ≡ n
 open_actions n [] true = refl

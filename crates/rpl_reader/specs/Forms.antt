@@ -11,7 +11,7 @@ use Rattle.text_words.specs.declared.statement.Word.{Word}
 use Rattle.rpl_reader.specs.declared.item.RplForm.{RplForm}
 use Rattle.rpl_reader.specs.declared.item.RplForm.TheVariants.{PrefixSet, RoutePolicy, If, EndIf, SetLocalPreference, Done, Drop}
 use Rattle.rpl_reader.specs.declared.item.RplTest.TheVariants.{Destination}
-use Rattle.rpl_reader.specs.Cut.{starts}
+use Rattle.text_words.specs.RplCut.{starts}
 
 -- the texts of words none of which is quoted
 abbrev pub plain_texts : List Word → Option (List (List ℕ))

@@ -1,8 +1,8 @@
-pub mod Words
-pub mod Cut
 pub mod Forms
 pub mod Tree
 pub mod Profile
 pub mod Meaning
 pub mod Layout
 pub mod Written
+pub mod Spelling
+pub mod Own

@@ -10,36 +10,20 @@ use Rattle.route_types.specs.declared.change.Change.TheVariants.{LocalPreference
 use Rattle.route_types.specs.declared.route.Outcome.{Outcome}
 use Rattle.route_types.specs.declared.route.Outcome.TheVariants.{Reject, Accept}
 use Rattle.rpl_reader.specs.declared.item.RplForm.{RplForm}
-use Rattle.rpl_reader.specs.declared.item.RplForm.TheVariants.{PrefixSet, Element, RoutePolicy, If, EndIf, SetLocalPreference, Done, Drop, End, Other}
+use Rattle.rpl_reader.specs.declared.item.RplForm.TheVariants.{PrefixSet, Element, RoutePolicy, If, EndIf, SetLocalPreference, Done, Drop, End}
 use Rattle.rpl_reader.specs.declared.item.RplTest.{RplTest}
 use Rattle.rpl_reader.specs.declared.item.RplTest.TheVariants.{Destination}
 
 -- the elements right below the first line of a set
 abbrev pub elements_below : List RplForm → List RangeParts
 elements_below [] = []
-elements_below (PrefixSet n ∷ fs) = []
 elements_below (Element r ∷ fs) = r ∷ elements_below fs
-elements_below (RoutePolicy n ∷ fs) = []
-elements_below (If t ∷ fs) = []
-elements_below (EndIf ∷ fs) = []
-elements_below (SetLocalPreference n ∷ fs) = []
-elements_below (Done ∷ fs) = []
-elements_below (Drop ∷ fs) = []
-elements_below (End ∷ fs) = []
-elements_below (Other o ∷ fs) = []
+elements_below (_ ∷ fs) = []
 
 -- the form opens the prefix set of this name
 abbrev pub is_set : List ℕ → RplForm → Bool
 is_set name (PrefixSet n) = bytes_eq name n
-is_set name (Element r) = false
-is_set name (RoutePolicy n) = false
-is_set name (If t) = false
-is_set name EndIf = false
-is_set name (SetLocalPreference n) = false
-is_set name Done = false
-is_set name Drop = false
-is_set name End = false
-is_set name (Other o) = false
+is_set name _ = false
 
 -- the elements of the prefix set of this name
 abbrev pub set_elements : List ℕ → List RplForm → List RangeParts
@@ -48,16 +32,8 @@ set_elements name (f ∷ fs) = elim (is_set name f) [ true ↦ elements_below fs
 
 -- the form opens the policy of this name
 abbrev pub is_policy : List ℕ → RplForm → Bool
-is_policy name (PrefixSet n) = false
-is_policy name (Element r) = false
 is_policy name (RoutePolicy n) = bytes_eq name n
-is_policy name (If t) = false
-is_policy name EndIf = false
-is_policy name (SetLocalPreference n) = false
-is_policy name Done = false
-is_policy name Drop = false
-is_policy name End = false
-is_policy name (Other o) = false
+is_policy name _ = false
 
 -- what stands below the first line of the policy of this name
 abbrev pub policy_body : List ℕ → List RplForm → List RplForm
@@ -83,19 +59,13 @@ passed_over false = 1
 unfoldable pub run : List RplForm → RouteParts → ℕ → Bool → RouteParts → List RplForm → Outcome
 run all arrived over ticket r [] = at_end ticket r
 run all arrived over ticket r (End ∷ fs) = at_end ticket r
-run all arrived zero ticket r (If t ∷ fs) = run all arrived (passed_over (test_holds all arrived t)) ticket r fs
-run all arrived (suc over) ticket r (If t ∷ fs) = run all arrived (suc (suc over)) ticket r fs
 run all arrived over ticket r (EndIf ∷ fs) = run all arrived (over - 1) ticket r fs
+run all arrived zero ticket r (If t ∷ fs) = run all arrived (passed_over (test_holds all arrived t)) ticket r fs
 run all arrived zero ticket r (SetLocalPreference n ∷ fs) = run all arrived zero true (changed (LocalPreference n) r) fs
-run all arrived (suc over) ticket r (SetLocalPreference n ∷ fs) = run all arrived (suc over) ticket r fs
 run all arrived zero ticket r (Done ∷ fs) = Accept r
-run all arrived (suc over) ticket r (Done ∷ fs) = run all arrived (suc over) ticket r fs
 run all arrived zero ticket r (Drop ∷ fs) = Reject
-run all arrived (suc over) ticket r (Drop ∷ fs) = run all arrived (suc over) ticket r fs
-run all arrived over ticket r (PrefixSet n ∷ fs) = run all arrived over ticket r fs
-run all arrived over ticket r (Element range ∷ fs) = run all arrived over ticket r fs
-run all arrived over ticket r (RoutePolicy n ∷ fs) = run all arrived over ticket r fs
-run all arrived over ticket r (Other o ∷ fs) = run all arrived over ticket r fs
+run all arrived (suc over) ticket r (If t ∷ fs) = run all arrived (suc (suc over)) ticket r fs
+run all arrived over ticket r (_ ∷ fs) = run all arrived over ticket r fs
 
 -- the meaning of the policy of this name, on a route
 unfoldable pub rpl_meaning : List RplForm → List ℕ → RouteParts → Outcome

@@ -5,12 +5,12 @@ use Rattle.route_types.specs.Words.{◌>>=◌, when}
 use Rattle.policy_text.specs.Names.{first_some, or_else}
 use Rattle.text_words.specs.declared.statement.Word.{Word}
 use Rattle.text_words.specs.declared.statement.Statement.{Statement}
-use Rattle.rpl_reader.specs.declared.item.BlockKind.{BlockKind}
-use Rattle.rpl_reader.specs.declared.item.BlockKind.TheVariants.{PrefixSet, CommunitySet, PathSet, Policy}
+use Rattle.text_words.specs.declared.rpl_blocks.BlockKind.{BlockKind}
+use Rattle.text_words.specs.declared.rpl_blocks.BlockKind.TheVariants.{PrefixSet, Policy}
 use Rattle.rpl_reader.specs.declared.item.RplForm.{RplForm}
 use Rattle.rpl_reader.specs.declared.item.RplForm.TheVariants.{Element, End, Other}
 use Rattle.rpl_reader.specs.declared.item.RplItem.{RplItem}
-use Rattle.rpl_reader.specs.Cut.{is_word, opened_by, rpl_cut}
+use Rattle.text_words.specs.RplCut.{is_word, opened_by, rpl_cut}
 use Rattle.rpl_reader.specs.Forms.{plain_texts, element_in, prefix_set_in, policy_header_in, if_in, set_in, single_word_in}
 
 -- the block that a statement outside blocks opens
@@ -20,10 +20,8 @@ opens (w ∷ ws) = opened_by w
 
 -- the word that ends a block
 abbrev pub end_word : BlockKind → List ℕ
-end_word PrefixSet = codes "end-set"
-end_word CommunitySet = codes "end-set"
-end_word PathSet = codes "end-set"
 end_word Policy = codes "end-policy"
+end_word _ = codes "end-set"
 
 -- the statement ends the block
 abbrev pub ends_block : BlockKind → List Word → Bool
@@ -37,16 +35,14 @@ second_word ws = option_map (λ w. w.text) (slice_get ws 1)
 -- the known form of a header, if it has one
 abbrev pub known_header : BlockKind → List (List ℕ) → Option RplForm
 known_header PrefixSet ts = prefix_set_in ts
-known_header CommunitySet ts = None
-known_header PathSet ts = None
 known_header Policy ts = policy_header_in ts
+known_header _ ts = None
 
 -- the known form of a statement in a block, if it has one
 abbrev pub known_statement : BlockKind → List (List ℕ) → Option RplForm
 known_statement PrefixSet ts = option_map Element (element_in ts)
-known_statement CommunitySet ts = None
-known_statement PathSet ts = None
 known_statement Policy ts = first_some (if_in ts) (first_some (set_in ts) (single_word_in ts))
+known_statement _ ts = None
 
 -- the form of a header; one that spells none is an Other under its second word
 unfoldable pub header_form : BlockKind → List Word → RplForm
@@ -105,10 +101,8 @@ ifs_behind ws ifs = elim (begins (codes "if") ws) [
 
 -- the same in any block: a set has no `if`
 abbrev pub ifs_within : BlockKind → List Word → List Bool → Option (List Bool)
-ifs_within PrefixSet ws ifs = Some ifs
-ifs_within CommunitySet ws ifs = Some ifs
-ifs_within PathSet ws ifs = Some ifs
 ifs_within Policy ws ifs = ifs_behind ws ifs
+ifs_within _ ws ifs = Some ifs
 
 -- no `if` is open
 abbrev pub none_open : List Bool → Bool

@@ -1,6 +1,7 @@
 use policy_text::Span;
 use prefix_sets::PrefixRange;
 use route_types::Row;
+use text_words::BlockKind;
 
 /// A statement of a set or of a policy, and where it stands.
 #[derive(Debug, Drop)]
@@ -47,13 +48,4 @@ pub enum RplTest {
 pub struct OtherItem {
     pub opens: Option<BlockKind>,
     pub name: Option<Row<u8>>,
-}
-
-/// What a block defines.
-#[derive(Clone, Copy, Debug, PartialEq, Eq)]
-pub enum BlockKind {
-    PrefixSet,
-    CommunitySet,
-    PathSet,
-    Policy,
 }

@@ -6,6 +6,7 @@ ghost use Rattle.route_types.specs.Route.{RouteParts};
 ghost use Rattle.rpl_reader.specs.declared.item.RplItem.{RplItem};
 ghost use Rattle.rpl_reader.specs.Layout.{Step, policy_text, policy_forms};
 ghost use Rattle.rpl_reader.specs.Meaning.{rpl_meaning};
+ghost use Rattle.rpl_reader.specs.Own.{TouchesItsOwn};
 ghost use Rattle.rpl_reader.specs.Profile.{InProfile};
 ghost use Rattle.rpl_reader.specs.Tree.{rpl_tree, forms};
 ghost use Rattle.rpl_reader.specs.Written.{IsWritable, steps_outcome};
@@ -24,4 +25,10 @@ pub fn written_is_in_profile()
 /// What a written policy says means what its steps mean, on every route.
 pub fn written_means_its_steps()
     ensures { (name : List ℕ) (sets : List (List RangeParts)) (steps : List Step) → IsWritable name sets steps → (r : RouteParts) → rpl_meaning (policy_forms name sets steps) name r ≡ steps_outcome sets r steps }
+{}
+
+/// The text of a written policy touches no name but its own: each statement lies in a block, each block
+/// ends, and each stands under the policy's name or under that name with `-` and more behind it.
+pub fn written_touches_its_own()
+    ensures { (name : List ℕ) (sets : List (List RangeParts)) (steps : List Step) → IsWritable name sets steps → TouchesItsOwn name (policy_text name sets steps) }
 {}

@@ -10,7 +10,7 @@ use Rattle.text_words.specs.declared.junos_bytes.Sort.TheVariants.{Gap, Quote, L
 use Rattle.text_words.specs.declared.junos_words.Begun.{Begun}
 use Rattle.text_words.specs.declared.junos_words.Within.{Within}
 use Rattle.text_words.specs.declared.junos_words.Within.TheVariants.{Outside, InWord, InQuote, InLine, Opening, InComment, AtStar}
-use Rattle.text_words.specs.IosCut.{end_of}
+use Rattle.text_words.specs.LineCut.{end_of}
 use Rattle.text_words.specs.Rising.{StatementsRise}
 use Rattle.text_words.specs.JunosWords.{Token, IsWord, Ender, Unclosed, Step, is_dropped, is_plain, sort_at, with_byte, outside_step, word_step, quote_step, comment_step, star_step, line_step, step_at, end_tokens, tokens_at}
 use Rattle.text_words.specs.JunosCut.{Outcome, in_front, span_of_words, at_text_end, grouped, cut_or_fault, cut_in, junos_cut}

@@ -1,6 +1,8 @@
 pub mod Lexes
+pub mod LineCut
+pub mod LineText
+pub mod Rise
 pub mod Lines
-pub mod Walk
 pub mod JunosGiven
 pub mod JunosWords
 pub mod JunosLaw
@@ -10,3 +12,4 @@ pub mod RplWritten
 mod RplExamples
 pub mod JunosRise
 mod JunosExamples
+mod Examples

@@ -12,7 +12,7 @@ use Rattle.text_words.specs.declared.statement.Ender.TheVariants.{Semi as BySemi
 use Rattle.text_words.specs.declared.statement.Statement.{Statement}
 use Rattle.text_words.specs.declared.junos_bytes.Mark.TheVariants.{Semi, Open, Close}
 use Rattle.text_words.specs.declared.junos_words.Within.TheVariants.{Outside}
-use Rattle.text_words.specs.IosCut.{end_of}
+use Rattle.text_words.specs.LineCut.{end_of}
 use Rattle.text_words.specs.JunosWords.{Token, IsWord, Ender, Unclosed, span, tokens_at}
 
 -- the statements of a text, or its first fault

@@ -2,9 +2,9 @@ pub mod Text
 pub mod Pieces
 pub mod Signs
 pub mod Lexes
+pub mod LineCut
 pub mod ByteWords
 pub mod IosCut
-pub mod Lines
 pub mod JunosWords
 pub mod JunosCut
 pub mod JunosWalk
@@ -13,4 +13,5 @@ pub mod RplWords
 pub mod RplCut
 pub mod RplReach
 pub mod RplText
+pub mod LineText
 pub mod Rising

@@ -1,6 +1,6 @@
 -- Words as they are written, with blanks in front and in quotes or not: their text, and where the words
 -- stand in it.
-use Rattle.std.specs.Prelude.{ℕ, suc, zero, ◌+◌, Bool, true, false, List, [], ◌∷◌, ◌++◌, length}
+use Rattle.std.specs.Prelude.{ℕ, suc, zero, ◌+◌, Bool, true, false, List, [], ◌∷◌, ◌++◌, length, map}
 use Rattle.text_words.specs.declared.statement.Word.{Word}
 
 -- a word with so many spaces in front
@@ -37,6 +37,10 @@ word_at p text quoted = record { text = text; quoted = quoted; span = record { s
 unfoldable pub placed : ℕ → List Piece → List Word
 placed p [] = []
 placed p (x ∷ xs) = word_at (p + x.gap) x.text x.quoted ∷ placed (p + x.gap + word_size x.text x.quoted) xs
+
+-- the texts of words
+abbrev pub texts : List Word → List (List ℕ)
+texts ws = map (λ w. w.text) ws
 
 -- the text of words, each behind one space
 abbrev pub text_behind : List (List ℕ) → List ℕ

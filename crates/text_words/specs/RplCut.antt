@@ -4,7 +4,7 @@
 -- `end-policy`. A quoted word is none of these words.
 use Rattle.std.specs.Prelude.{ℕ, Bool, true, false, ◌&&◌, ◌||◌, not, List, [], ◌∷◌, ◌++◌, Option, Some, None, codes, bytes_eq}
 use Rattle.std.specs.List.{list_any}
-use Rattle.text_words.specs.IosCut.{end_of}
+use Rattle.text_words.specs.LineCut.{end_of}
 use Rattle.text_words.specs.declared.statement.Span.{Span}
 use Rattle.text_words.specs.declared.statement.Word.{Word}
 use Rattle.text_words.specs.declared.statement.Ender.{Ender}

@@ -1,5 +1,6 @@
 ghost use Rattle.std.specs.Prelude.{◌≡◌, ◌++◌, IfOk, map};
 ghost use Rattle.text_words.specs.Pieces.{words_text, text_behind};
+ghost use Rattle.text_words.specs.LineText.{line_text};
 
 use crate::memory::Memory;
 
@@ -13,6 +14,16 @@ pub fn push_words(out: &mut Vec<u8>, words: &[&[u8]]) -> Result<(), Memory>
     };
     out.extend_from_slice(first)?;
     push_behind(out, others)
+}
+
+/// Puts a line of words at the end of `out`, one space between each two and an LF behind them. The one
+/// error is want of memory.
+pub fn push_line(out: &mut Vec<u8>, words: &[&[u8]]) -> Result<(), Memory>
+    ensures { IfOk result (λ _. out.new.items ≡ out.old.items ++ line_text (map (λ w. w.now) words.now)) }
+{
+    push_words(out, words)?;
+    out.push(b'\n')?;
+    Ok(())
 }
 
 // Words, each behind one space.

@@ -6,7 +6,7 @@ ghost use Rattle.text_words.specs.declared.statement.Ender.TheVariants.{Plain};
 ghost use Rattle.text_words.specs.RplCut.{is_word, is_one_of, opened_by, inside, behind_line, words_span, said, element, in_condition, starts_with, ends_with, taken, in_set, in_policy, in_statement};
 ghost use Rattle.text_words.specs.RplReach.{after, reach};
 
-use crate::ios_cut::end_of_words;
+use crate::line_cut::end_of_words;
 use crate::memory::Memory;
 use crate::row::Row;
 use crate::statement::{Ender, Span, Statement, Word};

@@ -5,7 +5,7 @@ ghost use Rattle.text_words.specs.declared.rpl_words.Standing.TheVariants.{Quote
 ghost use Rattle.text_words.specs.RplWords.{Lexeme, EndsLine, IsWord, is_single, is_remark, has_quote, sort_at, word_to, single_at, ended, past_blank, with_byte, past_remark, past, given, lexemes};
 ghost use Rattle.text_words.specs.RplReach.{reach};
 
-use crate::ios_cut::is_blank;
+use crate::line_cut::is_blank;
 use crate::memory::Memory;
 use crate::row::Row;
 use crate::rpl_blocks::Cutting;

@@ -1,16 +1,13 @@
 use Rattle.std.proofs.Common.{sym}
 use Rattle.route_types.specs.Words.{community_in}
-use Rattle.route_types.specs.RouteText.{words_in}
-use Rattle.route_types.proofs.EachWord.{word_found, word_not_found, words_end, at_none}
+use Rattle.route_types.proofs.Found.{first_found, first_not_found, all_found}
 use Rattle.route_types.proofs.route_text.communities_in.Goals as goal
 
-pub returns-in-None : goal.returns-in-None
-returns-in-None c =
-    word_not_found community_in c.loop-word.communities.items c.in-Some.word.now (words_in c.loop-word.rest.now) (words_in c.in-Some.after.now) _ c.in-Some.ensures.words (sym c.in-None.ensures.exact) c.loop-word.invariant
+pub loop-rest-preserved : goal.loop-rest-preserved
+loop-rest-preserved c = first_found community_in c.loop-rest.communities.items c.push.new.self.items c.in-Some.community c.loop-rest.rest.now c.word-item.result c.as_slice.result.now _ c.in-len1-up.len_at_least c.word-item.is c.as_slice.ensures (sym c.in-Some.ensures.exact) c.in_ok-push-in-Some.ensures.items c.loop-rest.invariant
 
-pub loop-word-preserved : goal.loop-word-preserved
-loop-word-preserved c =
-    word_found community_in c.loop-word.communities.items c.push.new.self.items c.in-Some-read_community.community c.in-Some.word.now (words_in c.loop-word.rest.now) (words_in c.in-Some.after.now) _ c.in-Some.ensures.words (sym c.in-Some-read_community.ensures.exact) c.in_ok-push-in-Some-read_community.ensures.items c.loop-word.invariant
+pub returns-in-None : goal.returns-in-None
+returns-in-None c = first_not_found community_in c.loop-rest.communities.items c.loop-rest.rest.now c.word-item.result c.as_slice.result.now _ c.in-len1-up.len_at_least c.word-item.is c.as_slice.ensures (sym c.in-None.ensures.exact) c.loop-rest.invariant
 
 pub returns : goal.returns
-returns c = words_end community_in c.loop-word.communities.items (words_in c.loop-word.rest.now) _ (at_none c.next_word.result _ _ c.next_word.ensures.words c.in_default.not-Some) c.loop-word.invariant
+returns c = all_found community_in c.loop-rest.communities.items c.loop-rest.rest.now _ c.in_default.len_below c.loop-rest.invariant
