@@ -5,7 +5,6 @@ use Rattle.route_types.specs.RouteText.{SpellsRoute, IsFirstBadLine}
 use Rattle.ios_reader.specs.Profile.{PolicyParts, all_forms}
 use Rattle.ios_tree.specs.Tree.{ios_tree}
 use Rattle.ios_tree.specs.declared.item.IosItem.{IosItem}
-<<<<<<< HEAD
 use Rattle.ios_meaning.specs.Meaning.{ios_meaning, name_of}
 use Rattle.policy_program.specs.Source.{OfIos, ios_source}
 use Rattle.policy_program.specs.Results.{outcome_text, IsJudgement}
@@ -22,25 +21,6 @@ judged source policy route_text text checked r loaded spelled tells = record {
   route = r;
   spelled = spelled;
   is = tells ∙ ap (λ (c : PolicyParts). outcome_text (ios_meaning c.items (name_of c) r)) loaded.is;
-=======
-use Rattle.ios_reader.specs.declared.forms.Forms.TheVariants.{All}
-use Rattle.ios_tree.specs.Tree.{ios_tree}
-use Rattle.ios_meaning.specs.Meaning.{ios_meaning, name_of, first_name}
-use Rattle.policy_program.specs.Checked.{IsChecked}
-use Rattle.policy_program.specs.Translated.{Answer}
-use Rattle.policy_program.specs.Judgement.{outcome_text, Judges}
-use Rattle.policy_program.specs.Judged.{JudgesRoute}
-use Rattle.policy_program.specs.declared.refusal.Refusal.TheVariants.{NoPolicy, Outside, Route, Memory}
-
-pub judges : (source policy route_file : List ℕ) (checked : PolicyParts) (answer : Answer) → IsChecked All source policy checked → JudgesRoute checked route_file answer → Judges source policy route_file answer
-judges source policy route_file checked (Ok text) is judged = record {
-  in_profile = is.in_profile;
-  route = judged.0;
-  spelled = judged.1;
-  is = judged.2
-    ∙ ap (λ (items : List IosItem). outcome_text (ios_meaning items (name_of checked) judged.0)) is.read
-    ∙ ap (λ (names : List (List ℕ)). outcome_text (ios_meaning (ios_tree source) (first_name names) judged.0)) is.named;
->>>>>>> origin/main
 }
 
 pub no_route : (j : JudgeParts) (source route_text : List ℕ) (checked : PolicyParts) (line : ℕ) → IsLoaded all_forms source j.policy checked → IsFirstBadLine route_text line
