@@ -63,23 +63,23 @@ no_text_once texts file (HasNoPolicy policy) b x y = absurd x
 no_text_once texts file (IsOutside place cause) b x y = absurd x
 no_text_once texts file (SpellsNoRoute line) b x y = absurd x
 
-texts_once : (texts : Texts) (is : List Input) (as bs : List (List ℕ)) → AreTextsOf (Some texts) is as → AreTextsOf (Some texts) is bs → as ≡ bs
+texts_once : (texts : Texts) (is : List Input) (ones twos : List (List ℕ)) → AreTextsOf (Some texts) is ones → AreTextsOf (Some texts) is twos → ones ≡ twos
 texts_once texts [] [] [] x y = refl
-texts_once texts [] (a ∷ as) bs x y = absurd x
-texts_once texts [] [] (b ∷ bs) x y = absurd y
-texts_once texts (i ∷ is) [] bs x y = absurd x
-texts_once texts (i ∷ is) (a ∷ as) [] x y = absurd y
-texts_once texts (i ∷ is) (a ∷ as) (b ∷ bs) x y =
+texts_once texts [] (a ∷ ones) twos x y = absurd x
+texts_once texts [] [] (b ∷ twos) x y = absurd y
+texts_once texts (i ∷ is) [] twos x y = absurd x
+texts_once texts (i ∷ is) (a ∷ ones) [] x y = absurd y
+texts_once texts (i ∷ is) (a ∷ ones) (b ∷ twos) x y =
     let first = text_once texts (file_in i) a b x.0 y.0 in
-    let others = texts_once texts is as bs x.1 y.1 in
+    let others = texts_once texts is ones twos x.1 y.1 in
     cc
 
 -- where all files have their texts none is told of
-turn_not : (texts : Texts) (is : List Input) (as : List (List ℕ)) (file : List ℕ) (about : Told) → AreTextsOf (Some texts) is as → IsAtTurn (Some texts) is file → HasNoText (Some texts) file about → ⊥
-turn_not texts [] as file about given turn none = turn
+turn_not : (texts : Texts) (is : List Input) (ones : List (List ℕ)) (file : List ℕ) (about : Told) → AreTextsOf (Some texts) is ones → IsAtTurn (Some texts) is file → HasNoText (Some texts) file about → ⊥
+turn_not texts [] ones file about given turn none = turn
 turn_not texts (i ∷ is) [] file about given turn none = given
-turn_not texts (i ∷ is) (a ∷ as) file about given (inl is_first) none = no_text_not texts (file_in i) a about given.0 (subst (λ (f : List ℕ). HasNoText (Some texts) f about) is_first none)
-turn_not texts (i ∷ is) (a ∷ as) file about given (inr later) none = turn_not texts is as file about given.1 later.2 none
+turn_not texts (i ∷ is) (a ∷ ones) file about given (inl is_first) none = no_text_not texts (file_in i) a about given.0 (subst (λ (f : List ℕ). HasNoText (Some texts) f about) is_first none)
+turn_not texts (i ∷ is) (a ∷ ones) file about given (inr later) none = turn_not texts is ones file about given.1 later.2 none
 
 -- the first file without a text is one
 turn_once : (texts : Texts) (is : List Input) (f g : List ℕ) (a b : Told) → IsAtTurn (Some texts) is f → HasNoText (Some texts) f a → IsAtTurn (Some texts) is g → HasNoText (Some texts) g b → a ≡ b

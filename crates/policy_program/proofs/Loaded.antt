@@ -11,7 +11,7 @@ use Rattle.policy_program.specs.FirstForms.{is_first_form}
 use Rattle.policy_program.specs.Source.{Taken, Ios, OfIos, NoPolicy, Outside}
 use Rattle.policy_program.specs.Answer.{Told, HasNoPolicy}
 use Rattle.policy_program.specs.Words.{TranslateParts, Translate, JudgeParts, Judge}
-use Rattle.policy_program.specs.Requests.{Input, PolicyFile, IsFirstUnsound}
+use Rattle.policy_program.specs.Requests.{Input, PolicyFile, RouteFile, IsFirstUnsound}
 use Rattle.policy_program.specs.Layers.{FailsToLoad, IsLoaded, TellsLoad, AnswersOn, told_of}
 use Rattle.policy_program.specs.declared.refusal.Fault.{Fault}
 use Rattle.policy_program.specs.declared.refusal.Fault.TheVariants.{Refused, Memory}
@@ -45,9 +45,9 @@ first_unsound taken file policy text is ts fault Memory fails tells = tt
 
 -- the same as the answer of each verb
 pub translate_refused : (t : TranslateParts) (text : List ℕ) (fault : CheckFault) (about : Fault) → FailsToLoad is_first_form text t.policy fault → TellsLoad t.file t.policy text fault about → AnswersOn (Translate t) (text ∷ []) (Err about)
-translate_refused t text fault (Refused r) fails tells = first_unsound _ t.file t.policy text [] [] fault (Refused r) fails tells
+translate_refused t text fault (Refused r) fails tells = first_unsound is_first_form t.file t.policy text [] [] fault (Refused r) fails tells
 translate_refused t text fault Memory fails tells = tt
 
 pub judge_refused : (j : JudgeParts) (source route : List ℕ) (fault : CheckFault) (about : Fault) → FailsToLoad all_forms source j.policy fault → TellsLoad j.file j.policy source fault about → AnswersOn (Judge j) (source ∷ route ∷ []) (Err about)
-judge_refused j source route fault (Refused r) fails tells = first_unsound _ j.file j.policy source _ (route ∷ []) fault (Refused r) fails tells
+judge_refused j source route fault (Refused r) fails tells = first_unsound all_forms j.file j.policy source (RouteFile j.route_file ∷ []) (route ∷ []) fault (Refused r) fails tells
 judge_refused j source route fault Memory fails tells = tt

@@ -42,7 +42,10 @@ Sound name all before is = first_fault_from span_of (rules_of is_first_form name
 abbrev pub IsFine : List ℕ → List IosItem → List IosItem → IosForm → Type 0
 IsFine name all before form = (cause : Cause) → is_fault is_first_form (facts_of name all) (before_of name before) form cause ≡ false
 
-none_first : (f : Option Cause) (s : Span) (rest : Option (Span × Cause)) → elim f [ Some cause ↦ Some (s, cause) | None ↦ rest ] ≡ None → (f ≡ None) × (rest ≡ None)
+abbrev fault_or : Option Cause → Span → Option (Span × Cause) → Option (Span × Cause)
+fault_or f s rest = elim f [ Some cause ↦ Some (s, cause) | None ↦ rest ]
+
+none_first : (f : Option Cause) (s : Span) (rest : Option (Span × Cause)) → fault_or f s rest ≡ None → (f ≡ None) × (rest ≡ None)
 none_first (Some cause) s rest e = absurd cc
 none_first None s rest e = (refl, e)
 

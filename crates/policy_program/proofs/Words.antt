@@ -5,7 +5,7 @@ use Rattle.std.proofs.lemmas.Slice.Eq.{bytes_eq-Decides}
 use Rattle.clap.specs.Words.{App, Kinds, Row, fault_of, first_of, matches_of}
 use Rattle.route_types.specs.Words.{◌>>=◌, when}
 use Rattle.policy_program.specs.Words.{Verb, Translates, Judges, verb_word, Slot, slots, Request, request_by, app_of_verb, AreValues, Accepts, IsRefused, request_view}
-use Rattle.policy_program.specs.Spelled.{AnswersBy, asked, asked_in, has_none, request_in, rows_in, values_in}
+use Rattle.policy_program.specs.Spelled.{AnswersBy, asked, asked_in, has_none, made_by, request_in, rows_in}
 use Rattle.policy_program.specs.declared.command.Request.{Request as Asked}
 use Rattle.policy_program.specs.declared.command.WordsFault.{WordsFault}
 use Rattle.policy_program.specs.declared.command.WordsFault.TheVariants.{Usage, Memory}
@@ -37,30 +37,25 @@ rows_read : (command : App) (words : List (List ℕ)) → fault_of command words
 unfolding rows_in
 rows_read command words e = ap (λ (ks : Kinds). when (has_none ks) (matches_of command words)) e
 
--- the values that are read are those of the table
-values_found : (command : App) (words : List (List ℕ)) (ss : List Slot) (vs : List (List ℕ)) → values_in (matches_of command words) ss ≡ Some vs → AreValues command words ss vs
-values_found command words [] [] e = tt
-values_found command words [] (v ∷ vs) e = absurd cc
-values_found command words (s ∷ ss) vs e =
-    let first = bind_found (first_of s.name (matches_of command words)) _ vs e in
-    let fit = bind_found (when (s.is_formed first.0) first.0) _ vs first.2 in
+-- what is made of the values that are read is made of values of the table
+made_found : (command : App) (words : List (List ℕ)) (ss : List Slot) (make : List (List ℕ) → Option Request) (q : Request) → made_by (matches_of command words) ss make ≡ Some q
+    → (vs : List (List ℕ)) × AreValues command words ss vs × (make vs ≡ Some q)
+made_found command words [] make q e = ([], tt, e)
+made_found command words (s ∷ ss) make q e =
+    let first = bind_found (first_of s.name (matches_of command words)) _ q e in
+    let fit = bind_found (when (s.is_formed first.0) first.0) _ q first.2 in
     let formed = when_found (s.is_formed first.0) first.0 fit.0 fit.1 in
-    let others = bind_found (values_in (matches_of command words) ss) _ vs fit.2 in
-    let same : (fit.0 ∷ others.0) ≡ vs = cc in
-    subst (AreValues command words (s ∷ ss)) {x = fit.0 ∷ others.0} same (
-      first.1 ∙ ap (λ (w : List ℕ). Some w) formed.1,
-      subst (λ (w : List ℕ). s.is_formed w ≡ true) formed.1 formed.0,
-      values_found command words ss others.0 others.1,
-    )
+    let others = made_found command words ss (λ vs. make (fit.0 ∷ vs)) q fit.2 in
+    (fit.0 ∷ others.0, (first.1 ∙ ap (λ (w : List ℕ). Some w) formed.1, subst (λ (w : List ℕ). s.is_formed w ≡ true) formed.1 formed.0, others.1), others.2)
 
-values_read : (command : App) (words : List (List ℕ)) (ss : List Slot) (vs : List (List ℕ)) → AreValues command words ss vs → values_in (matches_of command words) ss ≡ Some vs
-values_read command words [] [] a = refl
-values_read command words [] (v ∷ vs) a = absurd a
-values_read command words (s ∷ ss) [] a = absurd a
-values_read command words (s ∷ ss) (v ∷ vs) a =
-    bound_read (first_of s.name (matches_of command words)) _ v (v ∷ vs) a.0
-    (bound_read (when (s.is_formed v) v) _ v (v ∷ vs) (ap (λ (t : Bool). when t v) a.1)
-    (bound_read (values_in (matches_of command words) ss) _ vs (v ∷ vs) (values_read command words ss vs a.2) refl))
+made_read : (command : App) (words : List (List ℕ)) (ss : List Slot) (make : List (List ℕ) → Option Request) (vs : List (List ℕ)) (q : Request) → AreValues command words ss vs → make vs ≡ Some q
+    → made_by (matches_of command words) ss make ≡ Some q
+made_read command words [] make [] q a e = e
+made_read command words [] make (v ∷ vs) q a e = absurd a
+made_read command words (s ∷ ss) make [] q a e = absurd a
+made_read command words (s ∷ ss) make (v ∷ vs) q a e =
+    bound_read (first_of s.name (matches_of command words)) _ v q a.0
+    (bound_read (when (s.is_formed v) v) _ v q (ap (λ (t : Bool). when t v) a.1) (made_read command words ss (λ others. make (v ∷ others)) vs q a.2 e))
 
 -- what is read behind a verb is accepted
 asked_found : (verb : Verb) (words others : List (List ℕ)) (q : Request) → words ≡ verb_word verb ∷ others → asked verb words ≡ Some q → Accepts words q
@@ -68,22 +63,15 @@ unfolding asked asked_in
 asked_found verb words others q begins e =
     let rows = bind_found (rows_in (app_of_verb verb) words) (asked_in verb) q e in
     let plain = rows_found (app_of_verb verb) words rows.0 rows.1 in
-    let values = bind_found (values_in rows.0 (slots verb)) (request_by verb) q rows.2 in
-    record {
-      verb = verb;
-      begins = (others, begins);
-      faultless = plain.0;
-      values = values.0;
-      formed = values_found (app_of_verb verb) words (slots verb) values.0 (subst (λ (rs : List Row). values_in rs (slots verb) ≡ Some values.0) (sym plain.1) values.1);
-      makes = values.2;
-    }
+    let made = made_found (app_of_verb verb) words (slots verb) (request_by verb) q (subst (λ (rs : List Row). made_by rs (slots verb) (request_by verb) ≡ Some q) (sym plain.1) rows.2) in
+    record { verb = verb; begins = (others, begins); faultless = plain.0; values = made.0; formed = made.1; makes = made.2 }
 
 -- what is accepted behind a verb is read
 asked_read : (words : List (List ℕ)) (q : Request) (a : Accepts words q) → asked a.verb words ≡ Some q
 unfolding asked asked_in
 asked_read words q a =
     bound_read (rows_in (app_of_verb a.verb) words) (asked_in a.verb) (matches_of (app_of_verb a.verb) words) q (rows_read (app_of_verb a.verb) words a.faultless)
-    (bound_read (values_in (matches_of (app_of_verb a.verb) words) (slots a.verb)) (request_by a.verb) a.values q (values_read (app_of_verb a.verb) words (slots a.verb) a.values a.formed) a.makes)
+    (made_read (app_of_verb a.verb) words (slots a.verb) (request_by a.verb) a.values q a.formed a.makes)
 
 -- what is read of words is accepted
 pub request_found : (words : List (List ℕ)) (q : Request) → request_in words ≡ Some q → Accepts words q

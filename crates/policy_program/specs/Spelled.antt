@@ -1,9 +1,9 @@
 -- How a request is read from the values that clap's definition gives.
 use Rattle.std.specs.Prelude.{◌≡◌, ℕ, Bool, true, false, List, [], ◌∷◌, Option, Some, None, Result, Ok, Err, bytes_eq, codes, ⊤}
-use Rattle.clap.specs.Words.{App, Kinds, Row, fault_of, first_of, found_of, is_simple_and_free, matches_of, rows_of}
+use Rattle.clap.specs.Words.{App, Kinds, Row, fault_of, first_of, found_of, is_simple_and_free, matches_of, new_app, rows_of, with_rule}
 use Rattle.clap.specs.declared.parser.matches.ArgMatches.{ArgMatches}
 use Rattle.route_types.specs.Words.{◌>>=◌, when}
-use Rattle.policy_program.specs.Words.{Verb, Translates, Judges, Slot, slots, Request, request_by, app_of_verb, request_view}
+use Rattle.policy_program.specs.Words.{Verb, Translates, Judges, Slot, slots, option_rule, Request, request_by, app_of_verb, request_view}
 use Rattle.policy_program.specs.declared.command.Request.{Request as Asked}
 use Rattle.policy_program.specs.declared.command.WordsFault.{WordsFault}
 use Rattle.policy_program.specs.declared.command.WordsFault.TheVariants.{Usage, Memory}
@@ -12,18 +12,21 @@ use Rattle.policy_program.specs.declared.command.WordsFault.TheVariants.{Usage, 
 unfoldable pub is_plain : App → Bool
 is_plain command = is_simple_and_free command
 
--- the values of a table, each where it is of its form
-abbrev pub values_in : List Row → List Slot → Option (List (List ℕ))
-values_in rows [] = Some []
-values_in rows (s ∷ ss) = do
+-- the part of a command that names the source
+abbrev pub source_app : List ℕ → App
+source_app verb = with_rule (with_rule (new_app verb) (option_rule (codes "from"))) (option_rule (codes "policy"))
+
+-- what is made of the values of a table, each where it is of its form
+abbrev pub made_by : List Row → List Slot → (List (List ℕ) → Option Request) → Option Request
+made_by rows [] make = make []
+made_by rows (s ∷ ss) make = do
   word ← first_of s.name rows
   value ← when (s.is_formed word) word
-  others ← values_in rows ss
-  Some (value ∷ others)
+  made_by rows ss (λ values. make (value ∷ values))
 
 -- what a verb is asked by its values
 unfoldable pub asked_in : Verb → List Row → Option Request
-asked_in verb rows = values_in rows (slots verb) >>= request_by verb
+asked_in verb rows = made_by rows (slots verb) (request_by verb)
 
 -- there is no fault
 abbrev pub has_none : Kinds → Bool

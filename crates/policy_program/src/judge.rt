@@ -19,7 +19,6 @@ use std::alloc::Global;
 ///
 /// Its result is the text of what the route-map makes of the route: `reject`, or `accept` and the eight lines of
 /// the changed route.
-#[tactic(auto, using(crate::proofs::Loaded::judge_refused))]
 pub(crate) fn judge_texts<'a>(
     alloc: Global,
     asked: &JudgeWords<'a>,

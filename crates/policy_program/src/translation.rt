@@ -61,7 +61,6 @@ pub fn translate(
 }
 
 /// The answer of `translate` on the text of its file.
-#[tactic(auto, using(crate::proofs::Loaded::translate_refused))]
 pub(crate) fn translate_text<'a>(
     alloc: Global,
     asked: &TranslateWords<'a>,
