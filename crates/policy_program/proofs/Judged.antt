@@ -17,8 +17,8 @@ judges source policy route_file checked (Ok text) is judged = record {
   route = judged.0;
   spelled = judged.1;
   is = judged.2
-    ∙ ap (λ (items : List IosItem). outcome_text (ios_meaning items (name_of checked) judged.0)) is.read
-    ∙ ap (λ (names : List (List ℕ)). outcome_text (ios_meaning (ios_tree source) (first_name names) judged.0)) is.named;
+      ∙ ap (λ (items : List IosItem). outcome_text (ios_meaning items (name_of checked) judged.0)) is.read
+      ∙ ap (λ (names : List (List ℕ)). outcome_text (ios_meaning (ios_tree source) (first_name names) judged.0)) is.named;
 }
 judges source policy route_file checked (Err NoPolicy) is judged = absurd judged
 judges source policy route_file checked (Err (Outside span cause)) is judged = absurd judged
