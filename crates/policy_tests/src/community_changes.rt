@@ -41,10 +41,10 @@ fn one_after_the_other(rt: HostRuntime) -> Result<(), Fail> {
     let first = change(alloc, &[Rect::new(65001, 65001, 0, 65535)], &[A1])?;
     let second = change(alloc, &[Rect::new(65001, 65001, 1, 1)], &[])?;
     let both = Change::Communities(then(alloc, &first, &second)?);
-    let some = changed(alloc, &[A1, A5, B1], &both)?;
-    assert_eq!(rt; some.communities(), [B1].as_slice());
-    let other = changed(alloc, &[B1], &both)?;
-    assert_eq!(rt; other.communities(), [B1].as_slice());
+    for communities in [[A1, A5, B1].as_slice(), &[B1]] {
+        let route = changed(alloc, communities, &both)?;
+        assert_eq!(rt; route.communities(), [B1].as_slice());
+    }
     Ok(())
 }
 
@@ -54,9 +54,13 @@ fn rectangles_cut(rt: HostRuntime) -> Result<(), Fail> {
     let all = Rect::new(65001, 65001, 0, 65535);
     let one = Rect::new(65001, 65001, 1, 1);
     let other = Rect::new(65002, 65002, 1, 1);
-    assert_eq!(rt; cuts(&all, &change(alloc, &[one], &[])?), Cut::Part);
-    assert_eq!(rt; cuts(&one, &change(alloc, &[all], &[])?), Cut::Whole);
-    assert_eq!(rt; cuts(&other, &change(alloc, &[all], &[])?), Cut::Never);
+    for (rect, removed, want) in [
+        (all, one, Cut::Part),
+        (one, all, Cut::Whole),
+        (other, all, Cut::Never),
+    ] {
+        assert_eq!(rt; cuts(&rect, &change(alloc, &[removed], &[])?), want);
+    }
     Ok(())
 }
 

@@ -1,4 +1,5 @@
 // AS-path patterns of IOS and of Junos: which texts they are, what they find, and what the one is in the other.
+use crate::path_items::same_text;
 use aspath_text::{
     PatternFault, finds, matches, print_ios, print_junos, read_ios_pattern, read_junos_pattern,
     tokens,
@@ -126,19 +127,11 @@ const FOUND: &[(&[u8], &[&[u32]], &[&[u32]])] = &[
 #[test]
 fn paths_found(rt: HostRuntime) -> Result<(), PatternFault> {
     for (text, found, others) in FOUND {
-        for path in *found {
-            assert_eq!(rt;
-                answers(rt.alloc(), text, path)?,
-                (true, true),
-                "{text:?} {path:?}"
-            );
-        }
-        for path in *others {
-            assert_eq!(rt;
-                answers(rt.alloc(), text, path)?,
-                (false, false),
-                "{text:?} {path:?}"
-            );
+        for (paths, want) in [(*found, true), (*others, false)] {
+            for path in paths {
+                let both = answers(rt.alloc(), text, path)?;
+                assert_eq!(rt; both, (want, want), "{text:?} {path:?}");
+            }
         }
     }
     Ok(())
@@ -167,11 +160,8 @@ fn ios_in_junos(rt: HostRuntime) -> Result<(), PatternFault> {
         (b"^[13][02]$", b"(10|12|30|32)"),
     ];
     for (text, want) in rows {
-        assert_eq!(rt;
-            junos_of(rt.alloc(), text)?.as_deref(),
-            Some(want),
-            "{text:?}"
-        );
+        let found = junos_of(rt.alloc(), text)?;
+        same_text(&rt, found.as_deref(), Some(want));
     }
     Ok(())
 }
@@ -203,11 +193,8 @@ fn junos_in_ios(rt: HostRuntime) -> Result<(), PatternFault> {
         (b".* 1? 2", b"^[0-9]+(_[0-9]+)*(_1)?_2$|^1_2$|^2$"),
     ];
     for (text, want) in rows {
-        assert_eq!(rt;
-            ios_of(rt.alloc(), text)?.as_deref(),
-            Some(want),
-            "{text:?}"
-        );
+        let found = ios_of(rt.alloc(), text)?;
+        same_text(&rt, found.as_deref(), Some(want));
     }
     Ok(())
 }
@@ -227,11 +214,8 @@ fn ios_as_it_was(rt: HostRuntime) -> Result<(), PatternFault> {
         b"^$|_7_",
         b"^1_2(_3)?$",
     ] {
-        assert_eq!(rt;
-            ios_again(rt.alloc(), text)?.as_deref(),
-            Some(text),
-            "{text:?}"
-        );
+        let found = ios_again(rt.alloc(), text)?;
+        same_text(&rt, found.as_deref(), Some(text));
     }
     Ok(())
 }

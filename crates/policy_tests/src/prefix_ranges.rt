@@ -10,13 +10,13 @@ fn other_family(rt: HostRuntime) {
     };
     let all = Prefix::new(five, 0);
     let range = PrefixRange::new(all, 0, 128);
-    assert_eq!(rt; all.address().bits, 0);
     let deep = Prefix::new(five, 128);
-    assert_eq!(rt; (all.contains(&deep), range.holds(&deep)), (true, true));
     let first = Address {
         family: Family::V4,
         bits: 5,
     };
     let other = Prefix::new(first, 32);
-    assert_eq!(rt; (all.contains(&other), range.holds(&other)), (false, false));
+    let within = all.contains(&deep) && range.holds(&deep);
+    let beside = all.contains(&other) || range.holds(&other);
+    assert!(rt; all.address().bits == 0 && within && !beside);
 }

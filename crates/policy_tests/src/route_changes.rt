@@ -3,7 +3,8 @@ use route_types::{
     Change, CommChange, Community, Memory, NextHop, Origin, Rect, Route, Row, apply_change,
     new_route, print_route, read_address, read_prefix, read_route,
 };
-use std::alloc::Global;
+use std::alloc::{AllocGlobal, Global};
+use std::process::Abort;
 use std::test::Fail;
 
 /// 65001:1, 65001:5 and 65002:1.
@@ -38,6 +39,13 @@ fn replaced(alloc: Global) -> Result<Change, Memory> {
     Ok(Change::Communities(CommChange { removed, added }))
 }
 
+/// The route is printed so.
+fn prints(rt: &(impl Abort + AllocGlobal), route: &Route, want: &str) -> Result<(), Fail> {
+    let text = print_route(rt.alloc(), route)?;
+    assert_eq!(rt; text.as_slice(), want.as_bytes());
+    Ok(())
+}
+
 #[test]
 fn changes(rt: HostRuntime) -> Result<(), Fail> {
     let alloc = rt.alloc();
@@ -53,9 +61,9 @@ weight 3
 communities 65001:1 65001:5 65002:1
 ";
     let made = route(alloc)?;
-    assert_eq!(rt; print_route(alloc, &made)?.as_slice(), start.as_bytes());
+    prints(&rt, &made, start)?;
     let again = read_route(alloc, start.as_bytes())?;
-    assert_eq!(rt; print_route(alloc, &again)?.as_slice(), start.as_bytes());
+    prints(&rt, &again, start)?;
     let mut changed = again;
     for change in [
         Change::NextHop(hop),
@@ -78,6 +86,5 @@ med 50
 weight 9
 communities 65001:1 65002:1
 ";
-    assert_eq!(rt; print_route(alloc, &changed)?.as_slice(), end.as_bytes());
-    Ok(())
+    prints(&rt, &changed, end)
 }

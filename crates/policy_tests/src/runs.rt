@@ -3,6 +3,7 @@ use policy_outside::{MemoryShelf, MemorySink};
 use policy_program::run;
 use std::alloc::{AllocGlobal, Global};
 use std::process::Abort;
+use std::str;
 use std::test::Fail;
 
 /// Texts on the shelf, each under its name.
@@ -19,14 +20,6 @@ pub struct Run<'a> {
 
 /// What a run is to show: its status, what it puts to the output, and the line that it puts to the errors.
 pub type Shown<'a> = (u8, &'a str, &'a str);
-
-/// What a run has shown.
-#[derive(Drop)]
-pub struct Ended {
-    pub status: u8,
-    pub out: String,
-    pub err: String,
-}
 
 /// The words of `judge` by the policy IN.
 pub const JUDGE: &str = "judge --from ios --policy IN in.cfg r.txt";
@@ -68,22 +61,21 @@ fn sink_of(alloc: Global, failing: u64) -> Result<MemorySink, Fail> {
     Ok(sink)
 }
 
-fn text_of(alloc: Global, sink: &MemorySink) -> Result<String, Fail> {
-    Ok(String::from_utf8(Vec::from_slice(alloc, sink.bytes())?)?)
+/// What a run shows, in one text: what stands on the output, what on the errors, and the status.
+fn text_of(alloc: Global, out: &[u8], err: &[u8], status: u8) -> Result<String, Fail> {
+    let out = str::from_utf8(out)?;
+    let err = str::from_utf8(err)?;
+    Ok(format!(in alloc; "{out}--\n{err}--\nstatus {status}\n")?)
 }
 
 /// What the run shows.
-pub fn run_to_its_end(alloc: Global, asked: &Run<'_>) -> Result<Ended, Fail> {
+fn run_to_its_end(alloc: Global, asked: &Run<'_>) -> Result<String, Fail> {
     let words = words_of(alloc, asked.words)?;
     let mut shelf = shelf_of(alloc, asked)?;
     let mut out = sink_of(alloc, asked.failing[1])?;
     let mut err = sink_of(alloc, asked.failing[2])?;
     let status = run(alloc, words.as_slice(), &mut shelf, &mut out, &mut err);
-    Ok(Ended {
-        status: status.number(),
-        out: text_of(alloc, &out)?,
-        err: text_of(alloc, &err)?,
-    })
+    text_of(alloc, out.bytes(), err.bytes(), status.number())
 }
 
 /// A line with its end, and nothing for no line.
@@ -104,13 +96,12 @@ pub fn shows(
     let found = run_to_its_end(rt.alloc(), asked)?;
     let (status, out, line) = want;
     let err = with_line_end(rt.alloc(), line)?;
+    let want = text_of(rt.alloc(), out.as_bytes(), err.as_bytes(), status)?;
     let source = match asked.texts {
         [(_, text), ..] => text,
         [] => "",
     };
     let words = asked.words;
-    assert_eq!(rt; found.err.as_str(), err.as_str(), "{words}\n{source}");
-    assert_eq!(rt; found.out.as_str(), out, "{words}\n{source}");
-    assert_eq!(rt; found.status, status, "{words}\n{source}");
+    assert_eq!(rt; found.as_str(), want.as_str(), "{words}\n{source}");
     Ok(())
 }

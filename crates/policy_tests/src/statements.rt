@@ -1,11 +1,12 @@
 // The cuts of texts of the three languages: each statement with its depth, its place and its words, quoted ones
-// in quotes, and the sign that ends it; and words written again.
-use std::alloc::Global;
+// in quotes, and the sign that ends it.
+use std::alloc::{AllocGlobal, Global};
+use std::process::Abort;
 use std::str;
 use std::test::Fail;
 use text_words::{
     BrokenKind, Ender, Span, Statement, TextFault, Word, ios_statements, junos_statements,
-    push_words, rpl_statements,
+    rpl_statements,
 };
 
 /// The sign that ends a statement.
@@ -46,6 +47,17 @@ fn listed(alloc: Global, statements: &[Statement]) -> Result<String, Fail> {
     Ok(out)
 }
 
+/// The statements are these.
+fn lists(
+    rt: &(impl Abort + AllocGlobal),
+    statements: &[Statement],
+    want: &str,
+) -> Result<(), Fail> {
+    let found = listed(rt.alloc(), statements)?;
+    assert_eq!(rt; found.as_str(), want);
+    Ok(())
+}
+
 #[test]
 fn ios_texts(rt: HostRuntime) -> Result<(), Fail> {
     for (text, want) in [
@@ -57,8 +69,7 @@ fn ios_texts(rt: HostRuntime) -> Result<(), Fail> {
         ("\ta \t!b  \n", "1 1-6 a !b\n"),
     ] {
         let cut = ios_statements(rt.alloc(), text.as_bytes())?;
-        let found = listed(rt.alloc(), cut.as_slice())?;
-        assert_eq!(rt; found.as_str(), want, "{text}");
+        lists(&rt, cut.as_slice(), want)?;
     }
     Ok(())
 }
@@ -78,7 +89,7 @@ policy-options { /* a { b */
 1 106-107 }
 ";
     let cut = junos_statements(rt.alloc(), text.as_bytes())?;
-    assert_eq!(rt; listed(rt.alloc(), cut.as_slice())?.as_str(), want);
+    lists(&rt, cut.as_slice(), want)?;
     for (text, start, end, kind) in [
         (
             "policy-options {\n    as-path A \"65001 .\n",
@@ -136,16 +147,5 @@ end-policy
 0 226-236 end-policy
 ";
     let cut = rpl_statements(rt.alloc(), text.as_bytes())?;
-    assert_eq!(rt; listed(rt.alloc(), cut.as_slice())?.as_str(), want);
-    Ok(())
-}
-
-#[test]
-fn words_written(rt: HostRuntime) -> Result<(), Fail> {
-    let mut text = Vec::new(rt.alloc());
-    push_words(&mut text, &[b"set", b"metric"])?;
-    push_words(&mut text, &[])?;
-    push_words(&mut text, &[b" 5"])?;
-    assert_eq!(rt; text.as_slice(), b"set metric 5".as_slice());
-    Ok(())
+    lists(&rt, cut.as_slice(), want)
 }

@@ -1,6 +1,6 @@
 -- The printed text of a route spells that route.
 use Rattle.std.proofs.Common.{◌≡◌, refl, sym, ap, ◌∙◌, subst, ℕ, ◌+◌, ◌*◌, ◌/◌, ◌%◌, ◌^◌, ◌<◌, ◌≤◌, Bool, true, false, ◌&&◌, ◌||◌, List, [], ◌∷◌, ◌++◌, map, append_assoc, arith}
-use Rattle.std.specs.Prelude.{◌==◌, decimal, codes}
+use Rattle.std.specs.Prelude.{◌==◌, decimal}
 use Rattle.std.specs.List.{list_any, list_all, AllByRecursion}
 use Rattle.std.proofs.lemmas.Bool.{or_parts, or_from, ne_eqb}
 use Rattle.std.proofs.lemmas.List.{append-nil}
@@ -164,18 +164,34 @@ plain_lines r h =
 lines_spelled : (r : RouteParts) → InRange r → Each (SpellsLine r) (route_words r) route_lines
 unfolding route_words
 lines_spelled r h = (
-    record { word = prefix_text r.prefix; are = refl; spelled = prefix_in_found (prefix_text r.prefix) r.prefix (prefix_in_printed r.prefix h.family h.prefix) },
-    (record { word = next_hop_text r.next_hop; are = refl; spelled = hop_spelled r.next_hop h.next_hop },
-    (record { behind = map decimal r.path; are = refl; spelled = numbers_spelled r.path h.path },
-    (record { word = origin_text r.origin; are = refl; spelled = refl },
-    (record { word = decimal r.local_preference; are = refl; spelled = number_spelled 4294967295 r.local_preference (omega (arith, h.local_preference)) },
-    (record { word = decimal r.med; are = refl; spelled = number_spelled 4294967295 r.med (omega (arith, h.med)) },
-    (record { word = decimal r.weight; are = refl; spelled = number_spelled 65535 r.weight (omega (arith, h.weight)) },
-    (record {
-      listed = r.communities;
-      many = record { behind = map community_text r.communities; are = refl; spelled = communities_spelled r.communities h.communities };
-      is = sym (set_of_itself r.communities h.ascending);
-    }, tt))))))))
+  record { word = prefix_text r.prefix; are = refl; spelled = prefix_in_found (prefix_text r.prefix) r.prefix (prefix_in_printed r.prefix h.family h.prefix) },
+  (
+    record { word = next_hop_text r.next_hop; are = refl; spelled = hop_spelled r.next_hop h.next_hop },
+    (
+      record { behind = map decimal r.path; are = refl; spelled = numbers_spelled r.path h.path },
+      (
+        record { word = origin_text r.origin; are = refl; spelled = refl },
+        (
+          record { word = decimal r.local_preference; are = refl; spelled = number_spelled 4294967295 r.local_preference (omega (arith, h.local_preference)) },
+          (
+            record { word = decimal r.med; are = refl; spelled = number_spelled 4294967295 r.med (omega (arith, h.med)) },
+            (
+              record { word = decimal r.weight; are = refl; spelled = number_spelled 65535 r.weight (omega (arith, h.weight)) },
+              (
+                record {
+                  listed = r.communities;
+                  many = record { behind = map community_text r.communities; are = refl; spelled = communities_spelled r.communities h.communities };
+                  is = sym (set_of_itself r.communities h.ascending);
+                },
+                tt,
+              ),
+            ),
+          ),
+        ),
+      ),
+    ),
+  ),
+)
 
 -- the printed text of a route spells the route
 pub route_printed : (r : RouteParts) → InRange r → SpellsRoute (route_text r) r

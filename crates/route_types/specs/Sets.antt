@@ -1,5 +1,5 @@
 -- Communities of any sort, whatever numbers they are made of: rectangles, sets in rising order, and their changes.
-use Rattle.std.specs.Prelude.{ℕ, ◌≤◌, ◌<◌, ◌++◌, Bool, true, false, ◌&&◌, not, nat_le, nat_lt, List, [], ◌∷◌, filter, if◌then◌else◌}
+use Rattle.std.specs.Prelude.{ℕ, ◌<◌, ◌++◌, Bool, true, false, ◌&&◌, not, nat_le, nat_lt, List, [], ◌∷◌, filter, if◌then◌else◌}
 use Rattle.std.specs.List.{list_any}
 
 -- each number lies in its range: the numbers are those of a community, the ranges those of a rectangle, as many

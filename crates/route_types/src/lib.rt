@@ -1,9 +1,9 @@
 //! The values that every layer speaks of: addresses, prefixes, communities, routes, changes and
 //! outcomes; the words that spell numbers, addresses, prefixes and communities; and the text of a
-//! route, read and printed. It stands on std and the kit's itoa. Its definitions are in `specs/`, a
+//! route, read and printed. It stands on `text_words` and the kit's itoa. Its definitions are in `specs/`, a
 //! file a notion: the text of a route is `RouteText`, and `RouteRead` with `RouteLines` the function
 //! that reads it. The laws of route texts are the clauses of `route_texts`; those that crates above
-//! cite in `proofs/` are `Numbers`, `Spelled`, `Printed`, `Lines` and `Sets`.
+//! cite in `proofs/` are `Numbers`, `Spelled`, `Printed` and `Sets`.
 #![tactic(auto)]
 
 mod address;

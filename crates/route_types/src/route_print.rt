@@ -32,11 +32,7 @@ fn next_hop_text(alloc: Global, next_hop: &NextHop) -> Result<Vec<u8>, Memory>
     Ok(word)
 }
 
-fn push_next_hop_line(
-    alloc: Global,
-    out: &mut Vec<u8>,
-    next_hop: &NextHop,
-) -> Result<(), Memory>
+fn push_next_hop_line(alloc: Global, out: &mut Vec<u8>, next_hop: &NextHop) -> Result<(), Memory>
     ensures { IfOk result (λ _. out.new.items ≡ out.old.items ++ line_text (codes "next-hop" ∷ next_hop_text next_hop.now ∷ [])) }
 {
     let word = next_hop_text(alloc, next_hop)?;

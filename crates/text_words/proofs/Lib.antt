@@ -2,7 +2,6 @@ pub mod Lexes
 pub mod LineCut
 pub mod LineText
 pub mod Rise
-pub mod Lines
 pub mod JunosGiven
 pub mod JunosWords
 pub mod JunosLaw

@@ -3,7 +3,6 @@ pub mod Pieces
 pub mod Signs
 pub mod Lexes
 pub mod LineCut
-pub mod ByteWords
 pub mod IosCut
 pub mod JunosWords
 pub mod JunosCut

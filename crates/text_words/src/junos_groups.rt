@@ -4,8 +4,8 @@ ghost use Rattle.text_words.specs.JunosCut.{Gives, span_of_words, statement_of};
 ghost use Rattle.text_words.specs.JunosWalk.{outcome_behind, Took, Takes};
 
 use crate::fault::{BrokenKind, TextFault};
-use crate::line_cut::end_of_words;
 use crate::junos_bytes::Mark;
+use crate::line_cut::end_of_words;
 use crate::memory::Memory;
 use crate::row::Row;
 use crate::stack::Stack;

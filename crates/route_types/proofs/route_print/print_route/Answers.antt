@@ -1,6 +1,6 @@
-use Rattle.std.proofs.Common.{◌≡◌, ◌∙◌, ◌∷◌, [], ℕ, List, map}
+use Rattle.std.proofs.Common.{◌∙◌, ◌∷◌, [], ℕ, List, map}
 use Rattle.std.specs.Prelude.{codes, decimal}
-use Rattle.text_words.specs.LineText.{line_text, text_of_lines}
+use Rattle.text_words.specs.LineText.{text_of_lines}
 use Rattle.route_types.specs.Address.{PrefixParts}
 use Rattle.route_types.specs.Print.{prefix_text}
 use Rattle.route_types.specs.RouteText.{origin_text, next_hop_text, community_text, route_words, route_text}
