@@ -55,10 +55,13 @@ later : (told : Option Texts) (before between now : ShelfView) (i : Input) (is :
     → Unfetched told between now is answer → Unfetched told before now (i ∷ is) answer
 later told before between now i is t (Ok output) is_text same none = none
 later told before between now i is t (Err Memory) is_text same none = same_since before between now same none
-later told before between now i is t (Err (Refused r)) is_text same none = (inr (t, is_text, none.0), elim none.1 [
-  | inl rose ↦ inl (rose_since before between now r.file.now same rose.0, rose.1)
-  | inr fits ↦ inr (same_since before between now same fits.0, fits.1)
-])
+later told before between now i is t (Err (Refused r)) is_text same none = (
+  inr (t, is_text, none.0),
+  elim none.1 [
+    | inl rose ↦ inl (rose_since before between now r.file.now same rose.0, rose.1)
+    | inr fits ↦ inr (same_since before between now same fits.0, fits.1)
+  ],
+)
 
 -- the first of the files was fetched, or not
 gathers_on : (told : Option Texts) (answers : List (List ℕ) → Outcome Output Fault → Type 0) (before between now : ShelfView) (i : Input) (is : List Input) (answer : Outcome Output Fault) (fetched : Outcome (Vec ℕ Global) Fault)
@@ -78,8 +81,8 @@ gathers_on told answers before between now i is answer (Err (Refused r)) tells f
     inr (subst (λ (a : Outcome Output Fault). Unfetched told before now (i ∷ is) a) (sym goes.1) (
       inl fetch.0,
       subst (λ (f : List ℕ). Misses told before now f (told_of r.told)) (sym fetch.0)
-      (subst (λ (s : ShelfView). Misses told before s (file_in i) (told_of r.told)) (sym goes.0)
-      (subst (λ (o : Option Texts). Misses o before between (file_in i) (told_of r.told)) tells (missed before between (file_in i) (told_of r.told) fetch.1))),
+          (subst (λ (s : ShelfView). Misses told before s (file_in i) (told_of r.told)) (sym goes.0)
+          (subst (λ (o : Option Texts). Misses o before between (file_in i) (told_of r.told)) tells (missed before between (file_in i) (told_of r.told) fetch.1))),
     ))
 
 gathers : (told : Option Texts) (answers : List (List ℕ) → Outcome Output Fault → Type 0) (before now : ShelfView) (is : List Input) (answer : Outcome Output Fault) → before.texts ≡ told → FetchesAll answers before now is answer

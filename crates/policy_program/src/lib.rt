@@ -32,7 +32,7 @@ pub use command::{JudgeWords, Request, TranslateWords, WordsFault, read_words};
 pub use lines::{cause_name, tell_memory};
 pub use load::load_ios;
 pub use place::{Place, place_of};
-pub use top_call::run;
 pub use status::Status;
+pub use top_call::run;
 pub use translation::translate;
 pub use word_laws::{refused_by_a_cause, words_ask_once};

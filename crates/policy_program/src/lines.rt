@@ -57,7 +57,10 @@ pub(crate) fn tell_usage<E: Sink>(err: &mut E)
 pub(crate) fn tell_no_policy<E: Sink>(err: &mut E, file: &str, policy: &str)
     ensures { ReceivedLine (record { before = E.seen err.old; now = E.seen err.new }) (line_told file.now (HasNoPolicy policy.now)) }
 {
-    tell(err, &[file.as_bytes(), b": no policy ", policy.as_bytes(), b"\n"]);
+    tell(
+        err,
+        &[file.as_bytes(), b": no policy ", policy.as_bytes(), b"\n"],
+    );
 }
 
 /// Tells the first fault of a policy that lies outside the profile, at its place in the file.

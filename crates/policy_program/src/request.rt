@@ -84,11 +84,7 @@ fn judge_source<'a, S: Shelf>(
 
 /// The text of a file.
 #[tactic(auto, using(crate::proofs::Fetched::is_long))]
-fn fetch<'a, S: Shelf>(
-    alloc: Global,
-    file: &'a str,
-    shelf: &mut S,
-) -> Result<Vec<u8>, Fault<'a>>
+fn fetch<'a, S: Shelf>(alloc: Global, file: &'a str, shelf: &mut S) -> Result<Vec<u8>, Fault<'a>>
     ensures same_texts { (S.seen shelf.new).texts ≡ (S.seen shelf.old).texts }
     ensures text { FetchesText (S.seen shelf.old) (S.seen shelf.new) file.entry.now result }
 {
