@@ -41,7 +41,7 @@ made command words Translates (a ∷ []) v = absurd v.2
 made command words Translates (a ∷ b ∷ []) v = absurd v.2.2
 made command words Translates (a ∷ b ∷ c ∷ []) v = absurd v.2.2.2
 made command words Translates (a ∷ b ∷ c ∷ d ∷ []) v = absurd v.2.2.2.2
-made command words Translates (a ∷ b ∷ c ∷ d ∷ e ∷ []) v = (Translate (record { policy = b; name = d; file = e }), refl)
+made command words Translates (a ∷ b ∷ c ∷ d ∷ e ∷ []) v = (Translate (record { policy = c; name = d; file = e }), refl)
 made command words Translates (a ∷ b ∷ c ∷ d ∷ e ∷ f ∷ vs) v = absurd v.2.2.2.2.2
 made command words Judges [] v = absurd v
 made command words Judges (a ∷ []) v = absurd v.2

@@ -2,6 +2,7 @@
 use Rattle.std.proofs.Common.{◌≡◌, ◌⊎◌, inl, inr, refl, sym, ap, subst, ◌∙◌, ℕ, ◌<◌, ◌≤◌, Bool, true, false, List, [], ◌∷◌, length, Option, Some, None, arith}
 use Rattle.std.specs.Prelude.{nat_le, IsSomeAnd}
 use Rattle.std.proofs.lemmas.Bool.Decides.{nat_tests}
+use Rattle.std.proofs.lemmas.Option.{same_Some}
 use Rattle.text_words.specs.declared.statement.Span.{Span}
 use Rattle.policy_text.specs.declared.fault.Cause.{Cause}
 use Rattle.policy_outside.specs.Texts.{Texts, text_at}
@@ -109,9 +110,7 @@ loads_once taken (name ∷ []) items text (Outside span cause) (Loaded q) x y = 
 loads_once taken (name ∷ []) items text (Outside span cause) (NoPolicy n) x y = let no : true ≡ false = sym x.0 ∙ y.1 in absurd cc
 loads_once taken (name ∷ []) items text (Outside span cause) (Outside other why) x y =
     let both : Some (span, cause) ≡ Some (other, why) = sym x.1 ∙ y.1 in
-    let one : span ≡ other = cc in
-    let two : cause ≡ why = cc in
-    cc
+    ap (λ (fault : Span × Cause). Some (IsOutside (place_in text fault.0.start) fault.1)) (same_Some (span, cause) (other, why) both)
 
 -- the same in any language
 told_once : (taken : Taken) (dialect : Dialect) (names : List (List ℕ)) (text : List ℕ) (a b : Load) → LoadsIn dialect taken names text a → LoadsIn dialect taken names text b

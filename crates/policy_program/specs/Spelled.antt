@@ -12,9 +12,9 @@ use Rattle.policy_program.specs.declared.command.WordsFault.TheVariants.{Usage, 
 unfoldable pub is_plain : App → Bool
 is_plain command = is_simple_and_free command
 
--- the part of a command that names the source
-abbrev pub source_app : List ℕ → App
-source_app verb = with_rule (with_rule (new_app verb) (option_rule (codes "from"))) (option_rule (codes "policy"))
+-- a command with its first two options
+abbrev pub with_options : List ℕ → List ℕ → List ℕ → App
+with_options verb first second = with_rule (with_rule (new_app verb) (option_rule first)) (option_rule second)
 
 -- what is made of the values of a table, each where it is of its form
 abbrev pub made_by : List Row → List Slot → (List (List ℕ) → Option Request) → Option Request

@@ -42,7 +42,7 @@ file_slot name = record { name = name; is_option = false; is_formed = λ word. t
 -- the table of each verb
 abbrev pub slots : Verb → List Slot
 slots Translates =
-    option_slot (codes "from") (bytes_eq (codes "ios")) ∷ option_slot (codes "policy") is_policy_word ∷ option_slot (codes "to") (bytes_eq (codes "rpl"))
+    option_slot (codes "from") (bytes_eq (codes "ios")) ∷ option_slot (codes "to") (bytes_eq (codes "rpl")) ∷ option_slot (codes "policy") is_policy_word
     ∷ option_slot (codes "as") is_new_name ∷ file_slot (codes "file") ∷ []
 slots Judges = option_slot (codes "from") (bytes_eq (codes "ios")) ∷ option_slot (codes "policy") is_policy_word ∷ file_slot (codes "file") ∷ file_slot (codes "route-file") ∷ []
 
@@ -65,7 +65,7 @@ pub data Request : Type 0 where
 
 -- the request that the values of the table make, in its order
 abbrev pub request_by : Verb → List (List ℕ) → Option Request
-request_by Translates (from ∷ policy ∷ to ∷ name ∷ file ∷ []) = Some (Translate (record { policy = policy; name = name; file = file }))
+request_by Translates (from ∷ to ∷ policy ∷ name ∷ file ∷ []) = Some (Translate (record { policy = policy; name = name; file = file }))
 request_by Judges (from ∷ policy ∷ file ∷ route_file ∷ []) = Some (Judge (record { policy = policy; file = file; route_file = route_file }))
 request_by verb values = None
 

@@ -7,7 +7,6 @@ ghost use Rattle.policy_program.specs.Requests.{IsDue, IsServed};
 
 /// The answers that are due to a request by the texts of a shelf have one status: that of a refusal, or, where
 /// every file is as it has to be, that of a result.
-#[tactic(auto, using(crate::proofs::Due::one_status, crate::proofs::Due::served_or, crate::proofs::Due::served_not))]
 pub fn one_status_is_due()
     // Any two answers that are due have one status.
     ensures one { (texts : Texts) (q : Request) (a b : Answer) → IsDue (Some texts) q a → IsDue (Some texts) q b → status_of a ≡ status_of b }

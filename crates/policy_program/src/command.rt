@@ -125,12 +125,12 @@ fn translate_words<'a>(matches: &ArgMatches<'a>) -> Option<TranslateWords<'a>>
     if source != "ios" {
         return None;
     }
-    let policy = value(matches, "policy")?;
-    if !is_policy_word(policy.as_bytes()) {
-        return None;
-    }
     let target = value(matches, "to")?;
     if target != "rpl" {
+        return None;
+    }
+    let policy = value(matches, "policy")?;
+    if !is_policy_word(policy.as_bytes()) {
         return None;
     }
     let name = value(matches, "as")?;

@@ -10,7 +10,6 @@ pub fn words_ask_once()
 
 /// Words are refused exactly where one of three causes stands: the verb is unknown, clap's definition
 /// finds a fault, or a value is out of its form.
-#[tactic(auto, using(crate::proofs::Causes::refuses))]
 pub fn refused_by_a_cause()
     // Refused words have a cause.
     ensures causes { (words : List (List ℕ)) → IsRefused words → UsageCause words }
