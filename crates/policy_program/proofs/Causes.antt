@@ -1,11 +1,11 @@
 -- Words are refused exactly where one of the causes stands.
-use Rattle.std.proofs.Common.{◌≡◌, ◌⊎◌, inl, inr, ℕ, refl, sym, ap, subst, ◌∙◌, Bool, true, false, List, [], ◌∷◌, Option, Some}
+use Rattle.std.proofs.Common.{◌≡◌, ◌⊎◌, inl, inr, ℕ, refl, sym, ap, subst, ◌∙◌, Bool, true, false, List, [], ◌∷◌, Some}
 use Rattle.std.specs.Prelude.{bytes_eq, codes}
 use Rattle.std.specs.List.{list_all}
 use Rattle.std.proofs.lemmas.Bool.{and_parts}
 use Rattle.std.proofs.lemmas.Slice.Eq.{bytes_eq-Decides}
 use Rattle.clap.specs.Words.{App, Kinds, built, fault_of}
-use Rattle.policy_program.specs.Words.{Verb, Translates, Judges, verb_word, Slot, slots, Request, Translate, Judge, request_by, app_of_verb, value_of, AreValues, BeginsWith, Accepts, IsRefused, AnyMisformed, UsageCause, unknown_verb, faulty, misformed}
+use Rattle.policy_program.specs.Words.{Verb, Translates, Judges, verb_word, Slot, slots, Request, Translate, Judge, request_by, app_of_verb, value_of, AreValues, BeginsWith, IsRefused, AnyMisformed, UsageCause, unknown_verb, faulty, misformed}
 use Rattle.policy_program.proofs.ClapValues.{is_sound_command, requires_name, value_given}
 
 -- each command is sound, and requires each name of its table

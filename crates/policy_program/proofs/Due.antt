@@ -11,11 +11,11 @@ use Rattle.ios_tree.specs.Tree.{ios_tree}
 use Rattle.ios_tree.specs.declared.item.IosItem.{IosItem}
 use Rattle.ios_reader.specs.Profile.{is_defined, first_fault_within}
 use Rattle.ios_reader.proofs.LeastFault.{is_in_profile}
-use Rattle.policy_program.specs.Source.{Taken, Dialect, Ios, Rpl, Source, Policy, OfIos, Load, Loaded, Broken, NoPolicy, Outside, LoadsIos, LoadsIn}
+use Rattle.policy_program.specs.Source.{Taken, Dialect, Ios, Rpl, OfIos, Load, Loaded, Broken, NoPolicy, Outside, LoadsIos, LoadsIn}
 use Rattle.policy_program.specs.Lines.{place_in}
 use Rattle.policy_program.specs.Answer.{Told, CannotRead, IsTooLong, IsBroken, HasNoPolicy, IsOutside, SpellsNoRoute, Answer, Result, Refusal, status_of, status_told}
 use Rattle.policy_program.specs.Words.{Request, Translate, Judge}
-use Rattle.policy_program.specs.Requests.{Input, PolicyFile, RouteFile, inputs_of, taken_by, file_in, told_by, IsResult, IsSound, IsUnsound, IsFirstUnsound, AreSound, RightAnswer, IsTextOf, HasNoText, AreTextsOf, IsAtTurn, IsAnswer, IsDue, IsServed, most_bytes}
+use Rattle.policy_program.specs.Requests.{Input, PolicyFile, RouteFile, inputs_of, taken_by, file_in, told_by, IsResult, IsSound, IsUnsound, IsFirstUnsound, AreSound, IsTextOf, HasNoText, AreTextsOf, IsAtTurn, IsDue, IsServed, most_bytes}
 use Rattle.policy_program.specs.declared.status.Status.{Status}
 use Rattle.policy_program.specs.declared.status.Status.TheVariants.{Done}
 

@@ -1,12 +1,12 @@
 -- What follows from how a run ends: the headline, exactness and completeness.
-use Rattle.std.proofs.Common.{◌≡◌, ◌⊎◌, inl, inr, refl, sym, ap, subst, ◌∙◌, ℕ, List, Option, Some, None}
+use Rattle.std.proofs.Common.{◌≡◌, ◌⊎◌, inl, inr, refl, sym, subst, ◌∙◌, ℕ, List, Option, Some, None}
 use Rattle.std.specs.Prelude.{IfSome}
 use Rattle.policy_outside.specs.Texts.{Texts}
 use Rattle.policy_program.specs.Words.{Request, Accepts, IsRefused}
 use Rattle.policy_program.specs.Answer.{Told, CannotRead, IsTooLong, IsBroken, HasNoPolicy, IsOutside, SpellsNoRoute, Answer, Result, Refusal, status_of, status_told}
-use Rattle.policy_program.specs.Requests.{inputs_of, IsResult, IsAtTurn, IsDue, IsServed}
+use Rattle.policy_program.specs.Requests.{inputs_of, IsResult, IsAtTurn, IsDue}
 use Rattle.policy_program.specs.Ends.{Shelves, Sinks, Ends, by_words, by_fetch, refused, written, unwritten, by_memory}
-use Rattle.policy_program.specs.Run.{WritesResult, Completes, IsComplete, IsStatusFor, IsExact}
+use Rattle.policy_program.specs.Run.{WritesResult, IsComplete, IsStatusFor, IsExact}
 use Rattle.policy_program.specs.declared.status.Status.{Status}
 use Rattle.policy_program.specs.declared.status.Status.TheVariants.{Done, Usage, FetchFailed, WriteFailed, Memory}
 use Rattle.policy_program.proofs.Due.{result_sound, served_not, one_status}

@@ -1,5 +1,5 @@
 -- From how the layers of a run end to how the run ends.
-use Rattle.std.proofs.Common.{◌≡◌, ◌⊎◌, refl, inl, inr, sym, ap, subst, ◌∙◌, ℕ, true, List, [], ◌∷◌, Option, Some, Ok, Err}
+use Rattle.std.proofs.Common.{◌≡◌, ◌⊎◌, refl, inl, inr, sym, subst, ◌∙◌, ℕ, true, List, [], ◌∷◌, Option, Some, Ok, Err}
 use Rattle.std.specs.Prelude.{Result as Outcome, Vec}
 use Rattle.std.specs.declared.alloc.Global.{Global}
 use Rattle.policy_outside.specs.declared.faults.PutFault.{PutFault}
@@ -9,16 +9,15 @@ use Rattle.policy_outside.specs.Texts.{Texts}
 use Rattle.policy_outside.specs.Shelf.{ShelfView, SameFaults, FaultRose}
 use Rattle.policy_outside.specs.Sink.{Puts}
 use Rattle.rpl_reader.specs.Written.{is_new_name}
-use Rattle.policy_program.specs.Answer.{Told, CannotRead, IsTooLong, IsBroken, HasNoPolicy, IsOutside, SpellsNoRoute, Result, Refusal, status_told, line_told}
+use Rattle.policy_program.specs.Answer.{Told, CannotRead, IsTooLong, IsBroken, HasNoPolicy, IsOutside, SpellsNoRoute, Result, status_told, line_told}
 use Rattle.policy_program.specs.Words.{Verb, Translates, Judges, Request, Translate, Judge, request_by, slots, app_of_verb, AreValues, Accepts}
-use Rattle.policy_program.specs.Requests.{Input, inputs_of, file_in, IsResult, IsTextOf, HasNoText, AreTextsOf, IsAtTurn, RightAnswer, IsDue}
+use Rattle.policy_program.specs.Requests.{Input, inputs_of, file_in, IsTextOf, HasNoText, AreTextsOf, IsAtTurn, IsDue}
 use Rattle.policy_program.specs.Ends.{Shelves, Sinks, Ends, by_fetch, refused, written, unwritten, by_memory, Tells}
-use Rattle.policy_program.specs.Layers.{told_of, AnswersOn, IsWellNamed, FailsToFetch, FetchesText, GoesOn, FetchesAll, TellsPut, Writes, TellsAnswer, AnswersRequest}
+use Rattle.policy_program.specs.Layers.{told_of, AnswersOn, IsWellNamed, FailsToFetch, FetchesText, GoesOn, FetchesAll, TellsPut, TellsAnswer, AnswersRequest}
 use Rattle.policy_program.specs.declared.refusal.Fault.{Fault}
 use Rattle.policy_program.specs.declared.refusal.Fault.TheVariants.{Refused, Memory}
 use Rattle.policy_program.specs.declared.request.Output.{Output}
 use Rattle.policy_program.specs.declared.status.Status.{Status}
-use Rattle.policy_program.specs.declared.status.Status.TheVariants.{FetchFailed}
 
 same_since : (before between now : ShelfView) → SameFaults before between → SameFaults between now → SameFaults before now
 same_since before between now same again = record { count = again.count ∙ same.count; name = again.name ∙ same.name }

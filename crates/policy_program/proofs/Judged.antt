@@ -1,10 +1,9 @@
 -- What was judged on a loaded policy is the answer of judge.
-use Rattle.std.proofs.Common.{inl, inr, refl, ap, ◌∙◌, ℕ, List, [], ◌∷◌, Err}
+use Rattle.std.proofs.Common.{inl, inr, refl, ap, ◌∙◌, ℕ, List, [], ◌∷◌}
 use Rattle.route_types.specs.Route.{RouteParts}
 use Rattle.route_types.specs.RouteText.{SpellsRoute, IsFirstBadLine}
 use Rattle.ios_reader.specs.Profile.{PolicyParts, all_forms}
 use Rattle.ios_tree.specs.Tree.{ios_tree}
-use Rattle.ios_tree.specs.declared.item.IosItem.{IosItem}
 use Rattle.ios_meaning.specs.Meaning.{ios_meaning, name_of}
 use Rattle.policy_program.specs.Source.{OfIos, ios_source}
 use Rattle.policy_program.specs.Results.{outcome_text, IsJudgement}

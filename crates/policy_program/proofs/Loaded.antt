@@ -1,5 +1,5 @@
 -- What the check of a policy says of its source, and what is told of a file that does not load.
-use Rattle.std.proofs.Common.{◌≡◌, inl, refl, sym, ap, subst, ◌∙◌, ℕ, List, [], ◌∷◌, Option, Some, None, Result, Ok, Err}
+use Rattle.std.proofs.Common.{◌≡◌, inl, refl, sym, ap, subst, ◌∙◌, ℕ, List, [], ◌∷◌, Some, None, Err}
 use Rattle.std.specs.Prelude.{slice_get, unwrap_or}
 use Rattle.policy_text.specs.declared.fault.CheckFault.{CheckFault}
 use Rattle.policy_text.specs.declared.fault.CheckFault.TheVariants.{NoPolicy as NotThere, Outside as NotInProfile, Memory as NotChecked}
@@ -8,7 +8,7 @@ use Rattle.ios_tree.specs.Tree.{ios_tree}
 use Rattle.ios_reader.specs.Faults.{IsCheckFault}
 use Rattle.ios_reader.specs.Profile.{PolicyParts, InProfile, all_forms, first_fault_within}
 use Rattle.policy_program.specs.FirstForms.{is_first_form}
-use Rattle.policy_program.specs.Source.{Taken, Ios, OfIos, NoPolicy, Outside}
+use Rattle.policy_program.specs.Source.{Taken, Ios, NoPolicy, Outside}
 use Rattle.policy_program.specs.Answer.{Told, HasNoPolicy}
 use Rattle.policy_program.specs.Words.{TranslateParts, Translate, JudgeParts, Judge}
 use Rattle.policy_program.specs.Requests.{Input, PolicyFile, RouteFile, IsFirstUnsound}

@@ -4,7 +4,6 @@ use Rattle.std.specs.Prelude.{Result, Vec, MatchResult}
 use Rattle.std.specs.declared.alloc.Global.{Global}
 use Rattle.policy_text.specs.declared.fault.CheckFault.{CheckFault}
 use Rattle.policy_text.specs.declared.fault.CheckFault.TheVariants.{Memory}
-use Rattle.ios_tree.specs.declared.item.IosItem.{IosItem}
 use Rattle.ios_tree.specs.Tree.{ios_tree}
 use Rattle.ios_reader.specs.Profile.{PolicyParts}
 use Rattle.ios_meaning.specs.Meaning.{ios_meaning}

@@ -1,5 +1,5 @@
 -- Worked examples of lines, of the text of an outcome and of answers that are due.
-use Rattle.std.proofs.Common.{◌≡◌, inl, inr, refl, ℕ, ◌≤◌, length, List, [], ◌∷◌, ◌++◌, Some, lit≤}
+use Rattle.std.proofs.Common.{◌≡◌, inl, inr, refl, ℕ, List, [], ◌∷◌, ◌++◌, Some, lit≤}
 use Rattle.std.specs.Prelude.{codes}
 use Rattle.std.specs.Fmt.{digits}
 use Rattle.route_types.specs.declared.route.Outcome.TheVariants.{Reject}

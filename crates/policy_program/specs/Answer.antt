@@ -1,5 +1,5 @@
 -- The answers to a request, each with its status and its line on `err`: a status is one row here.
-use Rattle.std.specs.Prelude.{◌≡◌, ℕ, List, [], ◌∷◌, codes, decimal}
+use Rattle.std.specs.Prelude.{ℕ, List, [], ◌∷◌, codes, decimal}
 use Rattle.policy_outside.specs.Sink.{joined}
 use Rattle.policy_text.specs.declared.fault.Cause.{Cause}
 use Rattle.policy_program.specs.Lines.{cause_name}

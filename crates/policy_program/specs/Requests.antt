@@ -1,5 +1,5 @@
 -- A request as data: its files in the order in which they are fetched, what is read of each, and its right answer.
-use Rattle.std.specs.Prelude.{◌≡◌, ℕ, ◌≤◌, ◌⊎◌, List, [], ◌∷◌, length, map, Option, Some, None, slice_get, unwrap_or}
+use Rattle.std.specs.Prelude.{◌≡◌, ℕ, ◌≤◌, ◌⊎◌, List, [], ◌∷◌, length, Option, Some, None, slice_get, unwrap_or}
 use Rattle.policy_outside.specs.Texts.{Texts, text_at, IsTold, IsLonger}
 use Rattle.route_types.specs.Route.{RouteParts}
 use Rattle.route_types.specs.RouteText.{SpellsRoute, IsFirstBadLine}
