@@ -7,10 +7,10 @@ use Rattle.route_types.specs.declared.community.Community.{Community}
 use Rattle.prefix_sets.specs.declared.list.PrefixEntry.{PrefixEntry as Entry}
 use Rattle.policy_text.specs.Names.{first_some}
 use Rattle.policy_text.specs.Bounds.{bounds_in}
-use Rattle.policy_text.specs.Phrases.{after, behind, only, value_at, first_of, optional, some_each, one_of, name_in}
+use Rattle.policy_text.specs.Phrases.{after, behind, only, value_at, first_of, optional, some_each, name_in}
 use Rattle.aspath_text.specs.IosRead.{ios_pattern_in}
 use Rattle.aspath_text.specs.declared.pattern.IosBranch.{IosBranch}
-use Rattle.ios_tree.specs.Names.{list_in, numbered_list_in, permit_in, community_word_in, shape_in, origins}
+use Rattle.ios_tree.specs.Names.{list_in, numbered_list_in, permit_in, community_word_in, shape_in, origin_in}
 use Rattle.ios_tree.specs.declared.item.IosForm.{IosForm}
 use Rattle.ios_tree.specs.declared.item.IosForm.TheVariants.{PrefixEntry, PrefixDescription, CommunityEntry, PathEntry, MapHeader}
 use Rattle.ios_tree.specs.declared.item.CommunityShape.TheVariants.{Standard, Expanded}
@@ -39,7 +39,7 @@ range_in ws = do
   Some (record { permit = permit.0; range = record { prefix = prefix.0; least = lengths.0; most = lengths.1 } })
 
 -- `permit|deny P [ge G] [le E]`, or `description W..`
-abbrev pub range_or_in : List (List ℕ) → Option (Option Entry)
+unfoldable pub range_or_in : List (List ℕ) → Option (Option Entry)
 range_or_in ws = first_some (option_map (λ e. Some e) (range_in ws)) (option_map (λ rest. None) (after (codes "description" ∷ []) ws))
 
 -- the form by the name, the number and what stands behind them
@@ -118,7 +118,7 @@ option_in key (w ∷ v ∷ []) = elim (bytes_eq v key) [ true ↦ (w ∷ [], tru
 option_in key (w ∷ v ∷ u ∷ ws) = let rest = option_in key (v ∷ u ∷ ws) in (w ∷ rest.0, rest.1)
 
 -- the values of one or more words, and whether the option stands behind them
-abbrev pub with_option : {A : Type 0} → List ℕ → (List ℕ → Option A) → List (List ℕ) → Option (List A × Bool)
+unfoldable pub with_option : {A : Type 0} → List ℕ → (List ℕ → Option A) → List (List ℕ) → Option (List A × Bool)
 with_option key f ws = do
   xs ← some_each f (option_in key ws).0
   Some (xs, (option_in key ws).1)
@@ -130,7 +130,7 @@ none_in ws = do
   when (length rest == 0) (record { communities = []; additive = false })
 
 -- `C.. [additive]`, or `none`
-abbrev pub communities_in : List (List ℕ) → Option CommunitySetting
+unfoldable pub communities_in : List (List ℕ) → Option CommunitySetting
 communities_in ws = first_some (none_in ws) (option_map (λ s. record { communities = s.0; additive = s.1 }) (with_option (codes "additive") community_word_in ws))
 
 -- the value of a word that this one stands behind, and no more
@@ -147,23 +147,33 @@ target_in (w ∷ ws) = option_map (λ n. Some n) (only (number_in (2 ^ 64 - 1)) 
 unfoldable pub line_of : {A : Type 0} → (A → MapLine) → List (List ℕ) → (List (List ℕ) → Option A) → List (List ℕ) → Option MapLine
 line_of make ks f ws = option_map make (behind ks f ws)
 
+-- a line that tests a prefix or a next hop
+unfoldable pub match_prefix_in : List (List ℕ) → Option MapLine
+match_prefix_in ws =
+    first_some (line_of (λ lists. MatchPrefix (record { family = V4; lists = lists })) (codes "match" ∷ codes "ip" ∷ codes "address" ∷ codes "prefix-list" ∷ []) (some_each list_in) ws)
+    (line_of (λ lists. MatchNextHop (record { family = V4; lists = lists })) (codes "match" ∷ codes "ip" ∷ codes "next-hop" ∷ codes "prefix-list" ∷ []) (some_each list_in) ws)
+
 -- a line that tests
 unfoldable pub match_line_in : List (List ℕ) → Option MapLine
 match_line_in ws =
-    first_some (line_of (λ lists. MatchPrefix (record { family = V4; lists = lists })) (codes "match" ∷ codes "ip" ∷ codes "address" ∷ codes "prefix-list" ∷ []) (some_each list_in) ws)
-    (first_some (line_of (λ lists. MatchNextHop (record { family = V4; lists = lists })) (codes "match" ∷ codes "ip" ∷ codes "next-hop" ∷ codes "prefix-list" ∷ []) (some_each list_in) ws)
+    first_some (match_prefix_in ws)
     (first_some (line_of (λ m. MatchCommunity (record { lists = m.0; exact = m.1 })) (codes "match" ∷ codes "community" ∷ []) (with_option (codes "exact-match") list_in) ws)
     (first_some (line_of (λ lists. MatchPath (record { lists = lists })) (codes "match" ∷ codes "as-path" ∷ []) (some_each (numbered_list_in 1 (2 ^ 64 - 1))) ws)
-    (line_of (λ ns. MatchMetric ns) (codes "match" ∷ codes "metric" ∷ []) (some_each (number_in (2 ^ 32 - 1))) ws))))
+    (line_of (λ ns. MatchMetric ns) (codes "match" ∷ codes "metric" ∷ []) (some_each (number_in (2 ^ 32 - 1))) ws)))
+
+-- a line that sets a number
+unfoldable pub set_number_in : List (List ℕ) → Option MapLine
+set_number_in ws =
+    first_some (line_of (λ n. SetLocalPreference n) (codes "set" ∷ codes "local-preference" ∷ []) (only (number_in (2 ^ 32 - 1))) ws)
+    (first_some (line_of (λ n. SetMetric n) (codes "set" ∷ codes "metric" ∷ []) (only (number_in (2 ^ 32 - 1))) ws)
+    (line_of (λ n. SetWeight n) (codes "set" ∷ codes "weight" ∷ []) (only (number_in 65535)) ws))
 
 -- a line that sets a single value
 unfoldable pub set_value_in : List (List ℕ) → Option MapLine
 set_value_in ws =
-    first_some (line_of (λ n. SetLocalPreference n) (codes "set" ∷ codes "local-preference" ∷ []) (only (number_in (2 ^ 32 - 1))) ws)
-    (first_some (line_of (λ n. SetMetric n) (codes "set" ∷ codes "metric" ∷ []) (only (number_in (2 ^ 32 - 1))) ws)
-    (first_some (line_of (λ n. SetWeight n) (codes "set" ∷ codes "weight" ∷ []) (only (number_in 65535)) ws)
-    (first_some (line_of (λ o. SetOrigin o) (codes "set" ∷ codes "origin" ∷ []) (only (one_of origins)) ws)
-    (line_of (λ a. SetNextHop a) (codes "set" ∷ codes "ip" ∷ codes "next-hop" ∷ []) (only address_in) ws))))
+    first_some (set_number_in ws)
+    (first_some (line_of (λ o. SetOrigin o) (codes "set" ∷ codes "origin" ∷ []) (only origin_in) ws)
+    (line_of (λ a. SetNextHop a) (codes "set" ∷ codes "ip" ∷ codes "next-hop" ∷ []) (only address_in) ws))
 
 -- a line that changes the path or the communities
 unfoldable pub set_list_in : List (List ℕ) → Option MapLine

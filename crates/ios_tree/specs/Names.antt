@@ -20,11 +20,11 @@ abbrev pub list_name : List ℕ → List ℕ
 list_name word = elim (list_all is_digit word) [ true ↦ without_zeros word | false ↦ word ]
 
 -- the list that a word names
-abbrev pub list_in : List ℕ → Option (List ℕ)
+unfoldable pub list_in : List ℕ → Option (List ℕ)
 list_in word = when (is_name word) (list_name word)
 
 -- the list that a number between these names, by its text
-abbrev pub numbered_list_in : ℕ → ℕ → List ℕ → Option (List ℕ)
+unfoldable pub numbered_list_in : ℕ → ℕ → List ℕ → Option (List ℕ)
 numbered_list_in least most word = do
   n ← number_in most word
   when (nat_le least n) word
@@ -34,12 +34,16 @@ abbrev pub actions : List (List ℕ × Bool)
 actions = (codes "permit", true) ∷ (codes "deny", false) ∷ []
 
 -- `permit` or `deny`
-abbrev pub permit_in : List ℕ → Option Bool
+unfoldable pub permit_in : List ℕ → Option Bool
 permit_in word = one_of actions word
 
 -- the origins of routes that can be set
 abbrev pub origins : List (List ℕ × Origin)
 origins = (codes "igp", Igp) ∷ (codes "incomplete", Incomplete) ∷ []
+
+-- `igp` or `incomplete`
+unfoldable pub origin_in : List ℕ → Option Origin
+origin_in word = one_of origins word
 
 -- the community of 32 bits
 abbrev pub community_of_bits : ℕ → Community
@@ -56,7 +60,7 @@ whole_community word = do
   Some (community_of_bits bits)
 
 -- the community that a word spells: `a:b`, a word of its own, or one number
-abbrev pub community_word_in : List ℕ → Option Community
+unfoldable pub community_word_in : List ℕ → Option Community
 community_word_in word = first_some (community_in word) (first_some (one_of known_communities word) (whole_community word))
 
 -- the numbers that half of an expanded entry asks for: one, or all of them

@@ -1,6 +1,6 @@
 -- The tree of an IOS text: which statements are policy items, under which name they stand, and the
 -- form of each. What belongs to no policy is foreign and dropped.
-use Rattle.std.specs.Prelude.{ℕ, ◌+◌, ◌-◌, ◌^◌, Bool, true, false, ◌&&◌, ◌||◌, ◌==◌, nat_le, List, [], ◌∷◌, ◌++◌, Option, Some, None, codes, bytes_eq, option_map, is_some, slice_get, drop}
+use Rattle.std.specs.Prelude.{ℕ, ◌+◌, ◌-◌, ◌^◌, Bool, true, false, ◌&&◌, ◌||◌, ◌==◌, nat_le, List, [], ◌∷◌, ◌++◌, Option, Some, None, codes, bytes_eq, option_map, slice_get, drop}
 use Rattle.std.specs.List.{list_any}
 use Rattle.route_types.specs.Address.{same_family}
 use Rattle.route_types.specs.declared.address.Family.{Family}
@@ -8,7 +8,7 @@ use Rattle.route_types.specs.declared.address.Family.TheVariants.{V4, V6}
 use Rattle.text_words.specs.declared.statement.Statement.{Statement}
 use Rattle.text_words.specs.IosCut.{ios_cut}
 use Rattle.policy_text.specs.Names.{or_else}
-use Rattle.policy_text.specs.Phrases.{texts, after}
+use Rattle.policy_text.specs.Phrases.{texts}
 use Rattle.ios_tree.specs.Names.{list_name}
 use Rattle.ios_tree.specs.Forms.{prefix_list_in, community_list_in, path_entry_in, map_header_in, line_in}
 use Rattle.ios_tree.specs.declared.item.ItemSort.{ItemSort}
@@ -21,7 +21,9 @@ use Rattle.ios_tree.specs.declared.item.IosItem.{IosItem}
 
 -- the words begin with these
 abbrev pub begin_with : List (List ℕ) → List (List ℕ) → Bool
-begin_with ks ws = is_some (after ks ws)
+begin_with [] ws = true
+begin_with (k ∷ ks) [] = false
+begin_with (k ∷ ks) (w ∷ ws) = bytes_eq k w && begin_with ks ws
 
 -- a line of an entry by its first word, also where it stands at depth 0
 abbrev pub begins_line : List (List ℕ) → Bool

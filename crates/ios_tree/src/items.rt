@@ -19,10 +19,7 @@ use std::alloc::Global;
 fn begin_with(words: &[Word], keys: &[&[u8]]) -> bool
     ensures { result ≡ begin_with (map (λ k. k.now) keys.now) (texts words.now) }
 {
-    match after(words, keys) {
-        Some(_) => true,
-        None => false,
-    }
+    after(words, keys).is_some()
 }
 
 // A line of an entry by its first word, also where it stands at depth 0.

@@ -2,7 +2,7 @@
 
 ghost use Rattle.std.specs.Prelude.{◌≡◌, ◌∷◌, [], ◌-◌, ◌^◌, IfOk, codes};
 ghost use Rattle.policy_text.specs.Phrases.{texts, behind};
-ghost use Rattle.ios_tree.specs.Forms.{with_option, none_in, communities_in, followed_in, target_in, line_of, match_line_in, set_value_in, set_list_in, other_line_in, line_in};
+ghost use Rattle.ios_tree.specs.Forms.{with_option, none_in, communities_in, followed_in, target_in, line_of, match_prefix_in, match_line_in, set_number_in, set_value_in, set_list_in, other_line_in, line_in};
 ghost use Rattle.ios_tree.specs.Names.{list_in};
 
 use crate::item::{CommunityMatch, CommunitySetting, MapLine, PathMatch, PrefixMatch};
@@ -17,6 +17,7 @@ use std::alloc::Global;
 // ---- values behind the first words
 
 // The values of one or more words, and whether the option stands behind them.
+#[tactic(auto, unfolding(crate::specs::Forms::with_option))]
 fn with_option<T: Drop, R: Reads<T>>(
     alloc: Global,
     words: &[Word],
@@ -57,6 +58,7 @@ fn none_in(alloc: Global, words: &[Word]) -> Option<CommunitySetting>
 }
 
 // `C.. [additive]`, or `none`
+#[tactic(auto, unfolding(crate::specs::Forms::communities_in))]
 fn communities_in(alloc: Global, words: &[Word]) -> Result<Option<CommunitySetting>, Memory>
     ensures { IfOk result (λ o. o ≡ communities_in (texts words.now)) }
 {
@@ -118,10 +120,10 @@ fn target_in(alloc: Global, words: &[Word]) -> Result<Option<Option<u64>>, Memor
 
 // ---- lines
 
-// A line that tests.
-#[tactic(auto, unfolding(crate::specs::Forms::line_of, crate::specs::Forms::match_line_in))]
-fn match_line_in(alloc: Global, words: &[Word]) -> Result<Option<MapLine>, Memory>
-    ensures { IfOk result (λ o. o ≡ match_line_in (texts words.now)) }
+// A line that tests a prefix or a next hop.
+#[tactic(auto, unfolding(crate::specs::Forms::line_of, crate::specs::Forms::match_prefix_in))]
+fn match_prefix_in(alloc: Global, words: &[Word]) -> Result<Option<MapLine>, Memory>
+    ensures { IfOk result (λ o. o ≡ match_prefix_in (texts words.now)) }
 {
     let family = Family::V4;
     let keys: &[&[u8]] = &[b"match", b"ip", b"address", b"prefix-list"];
@@ -129,8 +131,19 @@ fn match_line_in(alloc: Global, words: &[Word]) -> Result<Option<MapLine>, Memor
         return Ok(Some(MapLine::MatchPrefix(PrefixMatch { family, lists })));
     }
     let keys: &[&[u8]] = &[b"match", b"ip", b"next-hop", b"prefix-list"];
-    if let Some(lists) = some_behind::<Row<u8>, ListWord>(alloc, words, keys)? {
-        return Ok(Some(MapLine::MatchNextHop(PrefixMatch { family, lists })));
+    match some_behind::<Row<u8>, ListWord>(alloc, words, keys)? {
+        None => Ok(None),
+        Some(lists) => Ok(Some(MapLine::MatchNextHop(PrefixMatch { family, lists }))),
+    }
+}
+
+// A line that tests.
+#[tactic(auto, unfolding(crate::specs::Forms::line_of, crate::specs::Forms::match_line_in))]
+fn match_line_in(alloc: Global, words: &[Word]) -> Result<Option<MapLine>, Memory>
+    ensures { IfOk result (λ o. o ≡ match_line_in (texts words.now)) }
+{
+    if let Some(line) = match_prefix_in(alloc, words)? {
+        return Ok(Some(line));
     }
     if let Some((lists, exact)) = community_match(alloc, words)? {
         return Ok(Some(MapLine::MatchCommunity(CommunityMatch { lists, exact })));
@@ -138,16 +151,16 @@ fn match_line_in(alloc: Global, words: &[Word]) -> Result<Option<MapLine>, Memor
     if let Some(lists) = some_behind::<Row<u8>, PathNumber>(alloc, words, &[b"match", b"as-path"])? {
         return Ok(Some(MapLine::MatchPath(PathMatch { lists })));
     }
-    if let Some(values) = some_behind::<u32, Number32>(alloc, words, &[b"match", b"metric"])? {
-        return Ok(Some(MapLine::MatchMetric(values)));
+    match some_behind::<u32, Number32>(alloc, words, &[b"match", b"metric"])? {
+        None => Ok(None),
+        Some(values) => Ok(Some(MapLine::MatchMetric(values))),
     }
-    Ok(None)
 }
 
-// A line that sets a single value.
-#[tactic(auto, unfolding(crate::specs::Forms::line_of, crate::specs::Forms::set_value_in))]
-fn set_value_in(alloc: Global, words: &[Word]) -> Result<Option<MapLine>, Memory>
-    ensures { IfOk result (λ o. o ≡ set_value_in (texts words.now)) }
+// A line that sets a number.
+#[tactic(auto, unfolding(crate::specs::Forms::line_of, crate::specs::Forms::set_number_in))]
+fn set_number_in(alloc: Global, words: &[Word]) -> Result<Option<MapLine>, Memory>
+    ensures { IfOk result (λ o. o ≡ set_number_in (texts words.now)) }
 {
     let keys: &[&[u8]] = &[b"set", b"local-preference"];
     if let Some(number) = one_behind::<u32, Number32>(alloc, words, keys)? {
@@ -156,17 +169,28 @@ fn set_value_in(alloc: Global, words: &[Word]) -> Result<Option<MapLine>, Memory
     if let Some(number) = one_behind::<u32, Number32>(alloc, words, &[b"set", b"metric"])? {
         return Ok(Some(MapLine::SetMetric(number)));
     }
-    if let Some(number) = one_behind::<u16, Number16>(alloc, words, &[b"set", b"weight"])? {
-        return Ok(Some(MapLine::SetWeight(number)));
+    match one_behind::<u16, Number16>(alloc, words, &[b"set", b"weight"])? {
+        None => Ok(None),
+        Some(number) => Ok(Some(MapLine::SetWeight(number))),
+    }
+}
+
+// A line that sets a single value.
+#[tactic(auto, unfolding(crate::specs::Forms::line_of, crate::specs::Forms::set_value_in))]
+fn set_value_in(alloc: Global, words: &[Word]) -> Result<Option<MapLine>, Memory>
+    ensures { IfOk result (λ o. o ≡ set_value_in (texts words.now)) }
+{
+    if let Some(line) = set_number_in(alloc, words)? {
+        return Ok(Some(line));
     }
     if let Some(origin) = one_behind::<Origin, OriginWord>(alloc, words, &[b"set", b"origin"])? {
         return Ok(Some(MapLine::SetOrigin(origin)));
     }
     let keys: &[&[u8]] = &[b"set", b"ip", b"next-hop"];
-    if let Some(address) = one_behind::<Address, AddressWord>(alloc, words, keys)? {
-        return Ok(Some(MapLine::SetNextHop(address)));
+    match one_behind::<Address, AddressWord>(alloc, words, keys)? {
+        None => Ok(None),
+        Some(address) => Ok(Some(MapLine::SetNextHop(address))),
     }
-    Ok(None)
 }
 
 // A line that changes the path or the communities.
@@ -181,10 +205,10 @@ fn set_list_in(alloc: Global, words: &[Word]) -> Result<Option<MapLine>, Memory>
     if let Some(setting) = setting_behind(alloc, words)? {
         return Ok(Some(MapLine::SetCommunity(setting)));
     }
-    if let Some(list) = deletion_behind(alloc, words)? {
-        return Ok(Some(MapLine::DeleteCommunities(list)));
+    match deletion_behind(alloc, words)? {
+        None => Ok(None),
+        Some(list) => Ok(Some(MapLine::DeleteCommunities(list))),
     }
-    Ok(None)
 }
 
 fn target_behind(alloc: Global, words: &[Word]) -> Result<Option<Option<u64>>, Memory>

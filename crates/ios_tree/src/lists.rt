@@ -2,7 +2,7 @@
 
 ghost use Rattle.std.specs.Prelude.{◌≡◌, [], ◌∷◌, ◌-◌, ◌^◌, IfOk, map, option_map};
 ghost use Rattle.policy_text.specs.Phrases.{texts};
-ghost use Rattle.ios_tree.specs.Forms.{is_written, written_number, range_in, prefix_list_in, head_in, standard_in, expanded_in, community_list_in, path_entry_in, map_header_in};
+ghost use Rattle.ios_tree.specs.Forms.{is_written, written_number, range_in, range_or_in, prefix_form, prefix_list_in, head_in, standard_in, expanded_in, community_list_in, path_entry_in, map_header_in};
 ghost use Rattle.ios_tree.specs.Names.{permit_in};
 
 use crate::item::{
@@ -56,6 +56,37 @@ fn range_in(words: &[Word]) -> Option<PrefixEntry>
     Some(PrefixEntry { permit, range })
 }
 
+// What an entry says, or nothing for a description.
+#[tactic(auto, unfolding(crate::specs::Forms::range_or_in, policy_text::specs::Phrases::after))]
+fn range_or_in(words: &[Word]) -> Option<Option<PrefixEntry>>
+    ensures { result ≡ range_or_in (texts words.now) }
+{
+    if let Some(entry) = range_in(words) {
+        return Some(Some(entry));
+    }
+    match after(words, &[b"description"]) {
+        None => None,
+        Some(_) => Some(None),
+    }
+}
+
+fn prefix_form(list: Row<u8>, number: Option<u64>, entry: Option<PrefixEntry>) -> IosForm
+    ensures { result ≡ prefix_form (list, (number, entry)) }
+{
+    match entry {
+        None => IosForm::PrefixDescription(PrefixDescription {
+            family: Family::V4,
+            list,
+        }),
+        Some(entry) => IosForm::PrefixEntry(PrefixListEntry {
+            list,
+            has_seq: is_written(number),
+            number: written_number(number),
+            entry,
+        }),
+    }
+}
+
 // `ip prefix-list N [seq S] permit|deny P [ge G] [le E]`, `ip prefix-list N [seq S] description W..`
 #[tactic(auto, unfolding(crate::specs::Forms::prefix_list_in))]
 pub(crate) fn prefix_list_in(alloc: Global, words: &[Word]) -> Result<Option<IosForm>, Memory>
@@ -70,22 +101,10 @@ pub(crate) fn prefix_list_in(alloc: Global, words: &[Word]) -> Result<Option<Ios
     let Some((number, rest)) = optional_at::<u64, Number64>(alloc, rest, &[b"seq"])? else {
         return Ok(None);
     };
-    if let Some(entry) = range_in(rest) {
-        return Ok(Some(IosForm::PrefixEntry(PrefixListEntry {
-            list,
-            has_seq: is_written(number),
-            number: written_number(number),
-            entry,
-        })));
+    match range_or_in(rest) {
+        None => Ok(None),
+        Some(entry) => Ok(Some(prefix_form(list, number, entry))),
     }
-    if after(rest, &[b"description"]).is_none() {
-        return Ok(None);
-    }
-    let family = Family::V4;
-    Ok(Some(IosForm::PrefixDescription(PrefixDescription {
-        family,
-        list,
-    })))
 }
 
 // ---- other entries

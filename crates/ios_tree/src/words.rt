@@ -6,7 +6,7 @@ ghost use Rattle.policy_text.specs.Phrases.{texts, one_of};
 ghost use Rattle.route_types.specs.Words.{is_digit, number_in};
 ghost use Rattle.aspath_text.specs.IosRead.{ios_pattern_in};
 ghost use Rattle.ios_tree.specs.Forms.{option_in};
-ghost use Rattle.ios_tree.specs.Names.{without_zeros, list_name, list_in, numbered_list_in, permit_in, origins, known_communities, whole_community, community_word_in, half_in, shape_in};
+ghost use Rattle.ios_tree.specs.Names.{without_zeros, list_name, list_in, numbered_list_in, permit_in, origin_in, known_communities, whole_community, community_word_in, half_in, shape_in};
 
 use aspath_text::{IosPattern, PatternFault, read_ios_pattern};
 use policy_text::{Reads, Word, copied, is, is_name, parts_at, read_community, read_number};
@@ -48,6 +48,7 @@ pub(crate) struct ListWord;
 impl Reads<Row<u8>> for ListWord {
     ghost find = { list_in };
 
+    #[tactic(auto, unfolding(crate::specs::Names::list_in))]
     fn read(alloc: Global, word: &[u8]) -> Result<Option<Row<u8>>, Memory> {
         if !is_name(word) {
             return Ok(None);
@@ -57,6 +58,7 @@ impl Reads<Row<u8>> for ListWord {
 }
 
 // A number from `least` to `most` names a list by its text.
+#[tactic(auto, unfolding(crate::specs::Names::numbered_list_in))]
 fn numbered_list(
     alloc: Global,
     word: &[u8],
@@ -112,6 +114,7 @@ impl Reads<Row<u8>> for PathNumber {
 /// `permit` or `deny`: whether an entry permits.
 pub(crate) struct ActionWord;
 
+#[tactic(auto, unfolding(crate::specs::Names::permit_in))]
 pub(crate) fn permit_in(word: &[u8]) -> Option<bool>
     ensures { result ≡ permit_in word.now }
 {
@@ -136,8 +139,9 @@ impl Reads<bool> for ActionWord {
 pub(crate) struct OriginWord;
 
 impl Reads<Origin> for OriginWord {
-    ghost find = { one_of origins };
+    ghost find = { origin_in };
 
+    #[tactic(auto, unfolding(crate::specs::Names::origin_in))]
     fn read(_alloc: Global, word: &[u8]) -> Result<Option<Origin>, Memory> {
         if word == b"igp".as_slice() {
             return Ok(Some(Origin::Igp));
@@ -180,6 +184,7 @@ fn whole_community(word: &[u8]) -> Option<Community>
     Some(Community(bits_in(word)?))
 }
 
+#[tactic(auto, unfolding(crate::specs::Names::community_word_in))]
 fn community_in(word: &[u8]) -> Option<Community>
     ensures { result ≡ community_word_in word.now }
 {

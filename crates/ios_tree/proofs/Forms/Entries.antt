@@ -74,6 +74,7 @@ after_agrees : (ks : List (List ℕ)) → Agrees (after ks) (λ ws rest. ws ≡ 
 after_agrees ks = record { found = after_found ks; only = after_spelled ks }
 
 range_or_found : (ws : List (List ℕ)) (o : Option Entry) → range_or_in ws ≡ Some o → SpellRangeOr ws o
+unfolding range_or_in
 range_or_found ws o e =
     first_found (option_map (λ x. Some x) (range_in ws)) (option_map (λ rest. None) (after (codes "description" ∷ []) ws)) o (SpellRangeOr ws o)
     (made_found range_in SpellRange (λ x. Some x) SpellRangeOr range_agrees (λ vs x h. h) ws o)
@@ -81,7 +82,7 @@ range_or_found ws o e =
     e
 
 range_or_only : (ws : List (List ℕ)) (o : Option Entry) → SpellRangeOr ws o → range_or_in ws ≡ Some o
-unfolding after
+unfolding after permit_in range_or_in
 range_or_only ws (Some x) h = rw (range_only ws x h) refl
 range_or_only ws None (rest, e) = rw e refl
 
@@ -211,7 +212,7 @@ no_number w n (Some m) h some e =
 -- a number above those of standard lists
 above : {A : Type 0} (shape : List (List ℕ) → Option A) (ws rest : List (List ℕ)) (w list : List ℕ) (behind_name : List (List ℕ)) → IsListNumber 100 500 w list
     → ws ≡ codes "ip" ∷ codes "community-list" ∷ rest → rest ≡ w ∷ behind_name → entry_in (codes "ip" ∷ codes "community-list" ∷ []) (numbered_list_in 1 99) shape ws ≡ None
-unfolding after
+unfolding after numbered_list_in
 above shape ws rest w list behind_name h e f = rw e (rw f (rw (no_number w h.number (number_in 99 w) h.spelled h.some refl) refl))
 
 standard_only : (ks : List (List ℕ)) (name : List ℕ → Option (List ℕ)) (Name : List ℕ → List ℕ → Type 0) → Agrees name Name → (ws : List (List ℕ)) (x : List ℕ × (Bool × List Community)) → SpellEntry ks Name AreCommunities ws x → standard_in ks name ws ≡ Some (standard_form x)

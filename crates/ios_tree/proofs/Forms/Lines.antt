@@ -14,7 +14,7 @@ use Rattle.policy_text.proofs.Phrases.{when_found, same_bytes, after_found, firs
 use Rattle.policy_text.proofs.Agree.{one_agrees, some_agrees, behind_agrees, made_found, made_only}
 use Rattle.policy_text.proofs.Values.{number_agrees, address_agrees}
 use Rattle.ios_tree.specs.Names.{list_in, community_word_in}
-use Rattle.ios_tree.specs.Forms.{option_in, with_option, none_in, communities_in, followed_in, target_in, line_of, match_line_in, set_value_in, set_list_in, other_line_in, line_in}
+use Rattle.ios_tree.specs.Forms.{option_in, with_option, none_in, communities_in, followed_in, target_in, line_of, match_prefix_in, match_line_in, set_number_in, set_value_in, set_list_in, other_line_in, line_in}
 use Rattle.ios_tree.specs.Spelling.{IsListWord, IsCommunityWord, AreCommunities, SpellOption, WithOption, SpellCommunities, Followed, SpellTarget, SpellLine}
 use Rattle.ios_tree.specs.declared.item.CommunitySetting.{CommunitySetting}
 use Rattle.ios_tree.specs.declared.item.MapLine.{MapLine}
@@ -25,6 +25,7 @@ use Rattle.ios_tree.proofs.Forms.Options.{option_found, option_spelled}
 -- ---- values behind the first words
 
 with_option_agrees : {A : Type 0} (key : List ℕ) (f : List ℕ → Option A) (P : List ℕ → A → Type 0) → Agrees f P → Agrees (with_option key f) (WithOption key P)
+unfolding with_option
 with_option_agrees key f P a = record {
   found = λ ws x e.
   let xs = bind_found (some_each f (option_in key ws).0) _ x e in
@@ -40,13 +41,14 @@ none_found ws s e =
     ap (λ (t : CommunitySetting). t.communities) (sym k.1), ap (λ (t : CommunitySetting). t.additive) (sym k.1))
 
 communities_found : (ws : List (List ℕ)) (s : CommunitySetting) → communities_in ws ≡ Some s → SpellCommunities ws s
+unfolding communities_in
 communities_found ws s e =
     first_found (none_in ws) _ s (SpellCommunities ws s) (none_found ws s)
     (made_found _ _ _ SpellCommunities (with_option_agrees (codes "additive") community_word_in IsCommunityWord community_word_agrees) (λ vs x h. inr h) ws s)
     e
 
 not_none_here : (t : Bool) (w : List ℕ) (c : Community) (ws : List (List ℕ)) → bytes_eq (codes "none") w ≡ t → IsCommunityWord w c → ◌≡◌ {A = Option CommunitySetting} ((elim t [ true ↦ Some ws | false ↦ None ]) >>= λ rest. when (length rest == 0) (record { communities = []; additive = false })) None
-unfolding community_in parts_at number_in
+unfolding community_in community_word_in parts_at number_in
 not_none_here true w c ws t h =
     let none : community_word_in (codes "none") ≡ Some c = ap (λ (x : List ℕ). community_word_in x) (same_bytes (codes "none") w t) ∙ community_word_agrees.only w c h in
     absurd (let k : ◌≡◌ {A = Option Community} None (Some c) = none in cc)
@@ -64,7 +66,7 @@ with_words rest words true h = (codes "additive" ∷ [], h)
 with_words rest words false h = ([], h.0 ∙ sym (append-nil words))
 
 communities_only : (ws : List (List ℕ)) (s : CommunitySetting) → SpellCommunities ws s → communities_in ws ≡ Some s
-unfolding after
+unfolding after communities_in
 communities_only ws s (inl (e, f, g)) = rw (e, f, g) refl
 communities_only ws s (inr h) =
     let more = with_words ws h.words s.additive h.option in
@@ -104,41 +106,51 @@ anything_agrees = record { found = λ ws rest e. some_is ws rest e; only = λ ws
 -- ---- what is found is spelled
 
 -- a line that is found by its first words is spelled
-of_line : {A : Type 0} {make : A → MapLine} {ks : List (List ℕ)} {f : List (List ℕ) → Option A} {P : List (List ℕ) → A → Type 0} → Agrees f P → ((ws : List (List ℕ)) (x : A) → Behind ks P ws x → SpellLine ws (make x))
+of_line : {A : Type 0} (make : A → MapLine) (ks : List (List ℕ)) (f : List (List ℕ) → Option A) (P : List (List ℕ) → A → Type 0) → Agrees f P → ((ws : List (List ℕ)) (x : A) → Behind ks P ws x → SpellLine ws (make x))
     → (ws : List (List ℕ)) (l : MapLine) → line_of make ks f ws ≡ Some l → SpellLine ws l
 unfolding line_of
-of_line {make = make} {ks = ks} {f = f} {P = P} a is ws l e = made_found (behind ks f) (Behind ks P) make SpellLine (behind_agrees ks f P a) is ws l e
+of_line make ks f P a is ws l e = made_found (behind ks f) (Behind ks P) make SpellLine (behind_agrees ks f P a) is ws l e
+
+match_prefix_found : (ws : List (List ℕ)) (l : MapLine) → match_prefix_in ws ≡ Some l → SpellLine ws l
+unfolding match_prefix_in
+match_prefix_found ws l e =
+    first_found _ _ l (SpellLine ws l) (of_line _ _ _ _ (some_agrees _ _ list_agrees) (λ vs x h. (h, refl)) ws l)
+    (of_line _ _ _ _ (some_agrees _ _ list_agrees) (λ vs x h. (h, refl)) ws l) e
 
 match_line_found : (ws : List (List ℕ)) (l : MapLine) → match_line_in ws ≡ Some l → SpellLine ws l
 unfolding match_line_in
 match_line_found ws l e =
-    first_found _ _ l (SpellLine ws l) (of_line (some_agrees _ _ list_agrees) (λ vs x h. (h, refl)) ws l)
-    (λ e1. first_found _ _ l (SpellLine ws l) (of_line (some_agrees _ _ list_agrees) (λ vs x h. (h, refl)) ws l)
-    (λ e2. first_found _ _ l (SpellLine ws l) (of_line (with_option_agrees _ _ _ list_agrees) (λ vs x h. h) ws l)
-    (λ e3. first_found _ _ l (SpellLine ws l) (of_line (some_agrees _ _ (numbered_list_agrees 1 (2 ^ 64 - 1) (lit< tt))) (λ vs x h. h) ws l)
-    (of_line (some_agrees _ _ (number_agrees (2 ^ 32 - 1) (lit< tt))) (λ vs x h. h) ws l) e3) e2) e1) e
+    first_found (match_prefix_in ws) _ l (SpellLine ws l) (match_prefix_found ws l)
+    (λ e1. first_found _ _ l (SpellLine ws l) (of_line _ _ _ _ (with_option_agrees _ _ _ list_agrees) (λ vs x h. h) ws l)
+    (λ e2. first_found _ _ l (SpellLine ws l) (of_line _ _ _ _ (some_agrees _ _ (numbered_list_agrees 1 (2 ^ 64 - 1) (lit< tt))) (λ vs x h. h) ws l)
+    (of_line _ _ _ _ (some_agrees _ _ (number_agrees (2 ^ 32 - 1) (lit< tt))) (λ vs x h. h) ws l) e2) e1) e
+
+set_number_found : (ws : List (List ℕ)) (l : MapLine) → set_number_in ws ≡ Some l → SpellLine ws l
+unfolding set_number_in
+set_number_found ws l e =
+    first_found _ _ l (SpellLine ws l) (of_line _ _ _ _ (one_agrees _ _ (number_agrees (2 ^ 32 - 1) (lit< tt))) (λ vs x h. h) ws l)
+    (λ e1. first_found _ _ l (SpellLine ws l) (of_line _ _ _ _ (one_agrees _ _ (number_agrees (2 ^ 32 - 1) (lit< tt))) (λ vs x h. h) ws l)
+    (of_line _ _ _ _ (one_agrees _ _ (number_agrees 65535 (lit< tt))) (λ vs x h. h) ws l) e1) e
 
 set_value_found : (ws : List (List ℕ)) (l : MapLine) → set_value_in ws ≡ Some l → SpellLine ws l
 unfolding set_value_in
 set_value_found ws l e =
-    first_found _ _ l (SpellLine ws l) (of_line (one_agrees _ _ (number_agrees (2 ^ 32 - 1) (lit< tt))) (λ vs x h. h) ws l)
-    (λ e1. first_found _ _ l (SpellLine ws l) (of_line (one_agrees _ _ (number_agrees (2 ^ 32 - 1) (lit< tt))) (λ vs x h. h) ws l)
-    (λ e2. first_found _ _ l (SpellLine ws l) (of_line (one_agrees _ _ (number_agrees 65535 (lit< tt))) (λ vs x h. h) ws l)
-    (λ e3. first_found _ _ l (SpellLine ws l) (of_line (one_agrees _ _ origin_agrees) (λ vs x h. h) ws l)
-    (of_line (one_agrees _ _ address_agrees) (λ vs x h. h) ws l) e3) e2) e1) e
+    first_found (set_number_in ws) _ l (SpellLine ws l) (set_number_found ws l)
+    (λ e1. first_found _ _ l (SpellLine ws l) (of_line _ _ _ _ (one_agrees _ _ origin_agrees) (λ vs x h. h) ws l)
+    (of_line _ _ _ _ (one_agrees _ _ address_agrees) (λ vs x h. h) ws l) e1) e
 
 set_list_found : (ws : List (List ℕ)) (l : MapLine) → set_list_in ws ≡ Some l → SpellLine ws l
 unfolding set_list_in
 set_list_found ws l e =
-    first_found _ _ l (SpellLine ws l) (of_line (some_agrees _ _ (number_agrees (2 ^ 32 - 1) (lit< tt))) (λ vs x h. h) ws l)
-    (λ e1. first_found _ _ l (SpellLine ws l) (of_line communities_agree (λ vs x h. h) ws l)
-    (of_line (followed_agrees _ _ _ list_agrees) (λ vs x h. h) ws l) e1) e
+    first_found _ _ l (SpellLine ws l) (of_line _ _ _ _ (some_agrees _ _ (number_agrees (2 ^ 32 - 1) (lit< tt))) (λ vs x h. h) ws l)
+    (λ e1. first_found _ _ l (SpellLine ws l) (of_line _ _ _ _ communities_agree (λ vs x h. h) ws l)
+    (of_line _ _ _ _ (followed_agrees _ _ _ list_agrees) (λ vs x h. h) ws l) e1) e
 
 other_line_found : (ws : List (List ℕ)) (l : MapLine) → other_line_in ws ≡ Some l → SpellLine ws l
 unfolding other_line_in
 other_line_found ws l e =
-    first_found _ _ l (SpellLine ws l) (of_line target_agrees (λ vs x h. h) ws l)
-    (of_line anything_agrees (λ vs x h. (h.0, h.1)) ws l) e
+    first_found _ _ l (SpellLine ws l) (of_line _ _ _ _ target_agrees (λ vs x h. h) ws l)
+    (of_line _ _ _ _ anything_agrees (λ vs x h. (h.0, h.1)) ws l) e
 
 pub line_found : (ws : List (List ℕ)) (l : MapLine) → line_in ws ≡ Some l → SpellLine ws l
 unfolding line_in
@@ -150,7 +162,7 @@ line_found ws l e =
 -- ---- what is spelled is found
 
 pub line_only : (ws : List (List ℕ)) (l : MapLine) → SpellLine ws l → line_in ws ≡ Some l
-unfolding line_in match_line_in set_value_in set_list_in other_line_in line_of after
+unfolding line_in match_prefix_in match_line_in set_number_in set_value_in set_list_in other_line_in line_of after
 line_only ws (MatchPrefix m) ((rest, e, h), family) = rw e (rw ((some_agrees _ _ list_agrees).only rest m.lists h, family) refl)
 line_only ws (MatchNextHop m) ((rest, e, h), family) = rw e (rw ((some_agrees _ _ list_agrees).only rest m.lists h, family) refl)
 line_only ws (MatchCommunity m) (rest, e, h) = rw e (rw ((with_option_agrees (codes "exact-match") _ _ list_agrees).only rest (m.lists, m.exact) h) refl)

@@ -17,18 +17,20 @@ use Rattle.policy_text.specs.Phrases.{Agrees, IsOneOf, one_of}
 use Rattle.policy_text.proofs.Phrases.{when_found, same_bytes, first_found, no_keyword}
 use Rattle.policy_text.proofs.Agree.{one_of_agrees}
 use Rattle.policy_text.proofs.Values.{number_agrees, community_agrees}
-use Rattle.ios_tree.specs.Names.{list_name, list_in, numbered_list_in, actions, origins, permit_in, community_of_bits, known_communities, whole_community, community_word_in, half_in, shape_in}
+use Rattle.ios_tree.specs.Names.{list_name, list_in, numbered_list_in, actions, origins, permit_in, origin_in, community_of_bits, known_communities, whole_community, community_word_in, half_in, shape_in}
 use Rattle.ios_tree.specs.Spelling.{IsListWord, IsListNumber, IsCommunityWord, IsHalf, IsShape}
 
 -- ---- names of lists
 
 pub list_agrees : Agrees list_in IsListWord
+unfolding list_in
 list_agrees = record {
   found = λ w l e. let h = when_found (is_name w) (list_name w) l e in record { named = h.0; names = sym h.1 };
   only = λ w l h. when_true (is_name w) (list_name w) h.named ∙ ap (λ (x : List ℕ). Some x) (sym h.names);
 }
 
 pub numbered_list_agrees : (least most : ℕ) → most < 2 ^ 64 → Agrees (numbered_list_in least most) (IsListNumber least most)
+unfolding numbered_list_in
 numbered_list_agrees least most small = record {
   found = λ w l e.
   let n = bind_found (number_in most w) (λ m. when (nat_le least m) w) l e in
@@ -41,9 +43,11 @@ numbered_list_agrees least most small = record {
 -- ---- words of a table
 
 pub permit_agrees : Agrees permit_in (IsOneOf actions)
+unfolding permit_in
 permit_agrees = one_of_agrees actions refl
 
-pub origin_agrees : Agrees (one_of origins) (IsOneOf origins)
+pub origin_agrees : Agrees origin_in (IsOneOf origins)
+unfolding origin_in
 origin_agrees = one_of_agrees origins refl
 
 -- ---- communities
@@ -54,6 +58,7 @@ whole_found w c e =
     subst (λ (x : Community). IsNumber (2 ^ 32 - 1) w x.0) (some_is (community_of_bits n.0) c n.2) ((number_agrees (2 ^ 32 - 1) (lit< tt)).found w n.0 n.1)
 
 community_word_found : (w : List ℕ) (c : Community) → community_word_in w ≡ Some c → IsCommunityWord w c
+unfolding community_word_in
 community_word_found w c e =
     first_found (community_in w) (first_some (one_of known_communities w) (whole_community w)) c (IsCommunityWord w c) (λ h. inl (community_agrees.found w c h))
     (λ g. first_found (one_of known_communities w) (whole_community w) c (IsCommunityWord w c) (λ h. inr (inl ((one_of_agrees known_communities refl).found w c h))) (λ h. inr (inr (whole_found w c h))) g)
@@ -75,7 +80,7 @@ number_unknown n small =
     rw (no_keyword n 110 (codes "o-export") small refl, one_of) (rw (no_keyword n 110 (codes "o-advertise") small refl, one_of) (rw (no_keyword n 108 (codes "ocal-AS") small refl, one_of) refl))
 
 number_word : (w : List ℕ) (c : Community) → IsNumber (2 ^ 32 - 1) w c.0 → community_word_in w ≡ Some c
-unfolding community_in
+unfolding community_in community_word_in
 number_word w c h =
     let small : c.0 < 2 ^ 64 = omega (arith, h.within) in
     ap (λ (x : List ℕ). community_word_in x) h.spelled
@@ -84,7 +89,7 @@ number_word w c h =
     ∙ rw ((number_agrees (2 ^ 32 - 1) (lit< tt)).only (decimal c.0) c.0 (record { spelled = refl; within = h.within })) refl)
 
 community_word_only : (w : List ℕ) (c : Community) → IsCommunityWord w c → community_word_in w ≡ Some c
-unfolding community_in parts_at
+unfolding community_in community_word_in parts_at
 community_word_only w c (inl h) = ap (λ (o : Option Community). first_some o (first_some (one_of known_communities w) (whole_community w))) (community_agrees.only w c h)
 community_word_only w c (inr (inl (inl (e, f)))) = rw (e, f) refl
 community_word_only w c (inr (inl (inr (inl (e, f))))) = rw (e, f) refl
