@@ -1,162 +1,115 @@
 -- Words are refused exactly where one of the causes stands.
-use Rattle.std.proofs.Common.{◌≡◌, ◌⊎◌, ◌≢◌, inl, inr, ℕ, refl, sym, ap, ◌∙◌, Bool, true, false, List, [], ◌∷◌, Option, Some}
+use Rattle.std.proofs.Common.{◌≡◌, ◌⊎◌, inl, inr, ℕ, refl, sym, ap, subst, ◌∙◌, Bool, true, false, List, [], ◌∷◌, Option, Some}
 use Rattle.std.specs.Prelude.{bytes_eq, codes}
+use Rattle.std.specs.List.{list_all}
+use Rattle.std.proofs.lemmas.Bool.{and_parts}
 use Rattle.std.proofs.lemmas.Slice.Eq.{bytes_eq-Decides}
 use Rattle.clap.specs.Words.{App, Kinds, built, fault_of}
-use Rattle.policy_program.specs.Causes.{AnyMisformed, BeginsWith, IsMisformed, UsageCause, VerbCause, judge_forms, of_judge, of_translate, translate_forms, unknown_verb}
-use Rattle.policy_program.specs.ClapCommands.{translate_app, judge_app}
-use Rattle.policy_program.specs.Command.{Translate, Judge, IsRefused, is_policy_word, value_of}
-use Rattle.rpl_reader.specs.Written.{is_new_name}
+use Rattle.policy_program.specs.Words.{Verb, Translates, Judges, verb_word, Slot, slots, Request, Translate, Judge, request_by, app_of_verb, value_of, AreValues, BeginsWith, Accepts, IsRefused, AnyMisformed, UsageCause, unknown_verb, faulty, misformed}
 use Rattle.policy_program.proofs.ClapValues.{is_sound_command, requires_name, value_given}
 
-translate_sound : is_sound_command (built translate_app) ≡ true
-unfolding translate_app
-translate_sound = refl
+-- each command is sound, and requires each name of its table
+sound : (verb : Verb) → is_sound_command (built (app_of_verb verb)) ≡ true
+unfolding app_of_verb
+sound Translates = refl
+sound Judges = refl
 
-judge_sound : is_sound_command (built judge_app) ≡ true
-unfolding judge_app
-judge_sound = refl
+required : (verb : Verb) → list_all (λ s. requires_name s.name (built (app_of_verb verb)).top.rules) (slots verb) ≡ true
+unfolding app_of_verb
+required Translates = refl
+required Judges = refl
 
--- the word that a fixed word is
-is_fixed : (fixed word : List ℕ) → bytes_eq fixed word ≡ true → Some word ≡ Some fixed
-is_fixed fixed word e = ap (λ (w : List ℕ). Some w) (sym ((bytes_eq-Decides fixed word).0 e))
-
--- the names that each command requires
-translate_names :
-    (requires_name (codes "from") (built translate_app).top.rules ≡ true) × (requires_name (codes "policy") (built translate_app).top.rules ≡ true)
-    × (requires_name (codes "to") (built translate_app).top.rules ≡ true) × (requires_name (codes "as") (built translate_app).top.rules ≡ true)
-    × (requires_name (codes "file") (built translate_app).top.rules ≡ true)
-unfolding translate_app
-translate_names = (refl, refl, refl, refl, refl)
-
-judge_names :
-    (requires_name (codes "from") (built judge_app).top.rules ≡ true) × (requires_name (codes "policy") (built judge_app).top.rules ≡ true)
-    × (requires_name (codes "file") (built judge_app).top.rules ≡ true) × (requires_name (codes "route-file") (built judge_app).top.rules ≡ true)
-unfolding judge_app
-judge_names = (refl, refl, refl, refl)
-
--- a value that is there
-abbrev Given : App → List (List ℕ) → List ℕ → Type 0
-Given command words name = (word : List ℕ) × (value_of command words name ≡ Some word)
-
--- refused words of `translate` whose values are there have one out of its form
-translate_misformed : (words others : List (List ℕ)) → words ≡ codes "translate" ∷ others → fault_of translate_app words ≡ [] → IsRefused words
-    → Given translate_app words (codes "from") → Given translate_app words (codes "policy") → Given translate_app words (codes "to")
-    → Given translate_app words (codes "as") → Given translate_app words (codes "file") → AnyMisformed translate_app words translate_forms
-translate_misformed words others begins e refused source policy target name file =
-    go (bytes_eq (codes "ios") source.0) (is_policy_word policy.0) (bytes_eq (codes "rpl") target.0) (is_new_name name.0) refl refl refl refl
+-- where clap's definition finds no fault, a value is out of its form, or all are of theirs
+given : (command : App) (words : List (List ℕ)) (ss : List Slot) → is_sound_command (built command) ≡ true → fault_of command words ≡ []
+    → list_all (λ s. requires_name s.name (built command).top.rules) ss ≡ true → AnyMisformed command words ss ⊎ ((vs : List (List ℕ)) × AreValues command words ss vs)
+given command words [] sound none named = inr ([], tt)
+given command words (s ∷ ss) sound none named =
+    let parts = and_parts (requires_name s.name (built command).top.rules) (list_all (λ s. requires_name s.name (built command).top.rules) ss) named in
+    let first = value_given command words s.name sound parts.0 none in
+    go first.0 first.1 (s.is_formed first.0) refl (given command words ss sound none parts.1)
   where
-    go : (s p t n : Bool) → bytes_eq (codes "ios") source.0 ≡ s → is_policy_word policy.0 ≡ p → bytes_eq (codes "rpl") target.0 ≡ t → is_new_name name.0 ≡ n
-        → AnyMisformed translate_app words translate_forms
-    go false p t n is_s is_p is_t is_n = inl (record { word = source.0; is_given = source.1; misformed = is_s })
-    go true false t n is_s is_p is_t is_n = inr (inl (record { word = policy.0; is_given = policy.1; misformed = is_p }))
-    go true true false n is_s is_p is_t is_n = inr (inr (inl (record { word = target.0; is_given = target.1; misformed = is_t })))
-    go true true true false is_s is_p is_t is_n = inr (inr (inr (inl (record { word = name.0; is_given = name.1; misformed = is_n }))))
-    go true true true true is_s is_p is_t is_n = absurd (refused (Translate (record { policy = policy.0; name = name.0; file = file.0 })) (record {
-      taken = record { others = others; begins = begins; faultless = e };
-      source = source.1 ∙ is_fixed (codes "ios") source.0 is_s;
-      policy = policy.1;
-      target = target.1 ∙ is_fixed (codes "rpl") target.0 is_t;
-      name = name.1;
-      file = file.1;
-      policy_form = is_p;
-      name_form = is_n;
-    }))
+    go : (word : List ℕ) → value_of command words s ≡ Some word → (t : Bool) → s.is_formed word ≡ t → AnyMisformed command words ss ⊎ ((vs : List (List ℕ)) × AreValues command words ss vs)
+        → AnyMisformed command words (s ∷ ss) ⊎ ((vs : List (List ℕ)) × AreValues command words (s ∷ ss) vs)
+    go word is false formed others = inl (inl (word, is, formed))
+    go word is true formed (inl m) = inl (inr m)
+    go word is true formed (inr a) = inr (word ∷ a.0, (is, formed, a.1))
 
--- the same of `judge`
-judge_misformed : (words others : List (List ℕ)) → words ≡ codes "judge" ∷ others → fault_of judge_app words ≡ [] → IsRefused words
-    → Given judge_app words (codes "from") → Given judge_app words (codes "policy") → Given judge_app words (codes "file") → Given judge_app words (codes "route-file")
-    → AnyMisformed judge_app words judge_forms
-judge_misformed words others begins e refused source policy file route_file =
-    go (bytes_eq (codes "ios") source.0) (is_policy_word policy.0) refl refl
-  where
-    go : (s p : Bool) → bytes_eq (codes "ios") source.0 ≡ s → is_policy_word policy.0 ≡ p → AnyMisformed judge_app words judge_forms
-    go false p is_s is_p = inl (record { word = source.0; is_given = source.1; misformed = is_s })
-    go true false is_s is_p = inr (inl (record { word = policy.0; is_given = policy.1; misformed = is_p }))
-    go true true is_s is_p = absurd (refused (Judge (record { policy = policy.0; file = file.0; route_file = route_file.0 })) (record {
-      taken = record { others = others; begins = begins; faultless = e };
-      source = source.1 ∙ is_fixed (codes "ios") source.0 is_s;
-      policy = policy.1;
-      file = file.1;
-      route_file = route_file.1;
-      policy_form = is_p;
-    }))
+-- the values of a table make a request
+made : (command : App) (words : List (List ℕ)) (verb : Verb) (vs : List (List ℕ)) → AreValues command words (slots verb) vs → (q : Request) × (request_by verb vs ≡ Some q)
+made command words Translates [] v = absurd v
+made command words Translates (a ∷ []) v = absurd v.2
+made command words Translates (a ∷ b ∷ []) v = absurd v.2.2
+made command words Translates (a ∷ b ∷ c ∷ []) v = absurd v.2.2.2
+made command words Translates (a ∷ b ∷ c ∷ d ∷ []) v = absurd v.2.2.2.2
+made command words Translates (a ∷ b ∷ c ∷ d ∷ e ∷ []) v = (Translate (record { policy = c; name = d; file = e }), refl)
+made command words Translates (a ∷ b ∷ c ∷ d ∷ e ∷ f ∷ vs) v = absurd v.2.2.2.2.2
+made command words Judges [] v = absurd v
+made command words Judges (a ∷ []) v = absurd v.2
+made command words Judges (a ∷ b ∷ []) v = absurd v.2.2
+made command words Judges (a ∷ b ∷ c ∷ []) v = absurd v.2.2.2
+made command words Judges (a ∷ b ∷ c ∷ d ∷ []) v = (Judge (record { policy = b; file = c; route_file = d }), refl)
+made command words Judges (a ∷ b ∷ c ∷ d ∷ e ∷ vs) v = absurd v.2.2.2.2
 
--- refused words of a known verb have a cause
-translate_cause : (words : List (List ℕ)) → BeginsWith (codes "translate") words → IsRefused words → VerbCause (codes "translate") translate_app translate_forms words
-translate_cause words begins refused = (begins, go (fault_of translate_app words) refl)
+-- words that begin with a verb and are refused have a cause
+verb_cause : (words : List (List ℕ)) (verb : Verb) → BeginsWith verb words → IsRefused words → UsageCause words
+verb_cause words verb begins refused = go (fault_of (app_of_verb verb) words) refl
   where
-    go : (ks : Kinds) → fault_of translate_app words ≡ ks → (fault_of translate_app words ≢ []) ⊎ AnyMisformed translate_app words translate_forms
-    go (k ∷ ks) e = inl (λ none. let no : (k ∷ ks) ≡ [] = sym e ∙ none in cc)
-    go [] e =
-        let given = λ (id : List ℕ) (wanted : requires_name id (built translate_app).top.rules ≡ true). value_given translate_app words id translate_sound wanted e in
-        inr (translate_misformed words begins.0 begins.1 e refused (given (codes "from") translate_names.0) (given (codes "policy") translate_names.1)
-        (given (codes "to") translate_names.2) (given (codes "as") translate_names.3) (given (codes "file") translate_names.4))
+    go : (ks : Kinds) → fault_of (app_of_verb verb) words ≡ ks → UsageCause words
+    go (k ∷ ks) e = faulty verb begins (λ none. let no : (k ∷ ks) ≡ [] = sym e ∙ none in cc)
+    go [] e = elim (given (app_of_verb verb) words (slots verb) (sound verb) e (required verb)) [
+      | inl m ↦ misformed verb begins m
+      | inr a ↦ let q = made (app_of_verb verb) words verb a.0 a.1 in
+          absurd (refused q.0 (record { verb = verb; begins = begins; faultless = e; values = a.0; formed = a.1; makes = q.1 }))
+    ]
 
-judge_cause : (words : List (List ℕ)) → BeginsWith (codes "judge") words → IsRefused words → VerbCause (codes "judge") judge_app judge_forms words
-judge_cause words begins refused = (begins, go (fault_of judge_app words) refl)
+-- words begin with a word, or do not
+begins_or_not : (verb : Verb) (words : List (List ℕ)) → BeginsWith verb words ⊎ (BeginsWith verb words → ⊥)
+begins_or_not verb [] = inr (λ b. let no : [] ≡ verb_word verb ∷ b.0 = b.1 in cc)
+begins_or_not verb (first ∷ others) = go (bytes_eq first (verb_word verb)) refl
   where
-    go : (ks : Kinds) → fault_of judge_app words ≡ ks → (fault_of judge_app words ≢ []) ⊎ AnyMisformed judge_app words judge_forms
-    go (k ∷ ks) e = inl (λ none. let no : (k ∷ ks) ≡ [] = sym e ∙ none in cc)
-    go [] e =
-        let given = λ (id : List ℕ) (wanted : requires_name id (built judge_app).top.rules ≡ true). value_given judge_app words id judge_sound wanted e in
-        inr (judge_misformed words begins.0 begins.1 e refused (given (codes "from") judge_names.0) (given (codes "policy") judge_names.1)
-        (given (codes "file") judge_names.2) (given (codes "route-file") judge_names.3))
-
--- words begin with a verb, or do not
-begins_or_not : (verb : List ℕ) (words : List (List ℕ)) → BeginsWith verb words ⊎ (BeginsWith verb words → ⊥)
-begins_or_not verb [] = inr (λ b. let no : [] ≡ verb ∷ b.0 = b.1 in cc)
-begins_or_not verb (first ∷ others) = go (bytes_eq first verb) refl
-  where
-    go : (t : Bool) → bytes_eq first verb ≡ t → BeginsWith verb (first ∷ others) ⊎ (BeginsWith verb (first ∷ others) → ⊥)
-    go true e = inl (others, ap (λ (w : List ℕ). w ∷ others) ((bytes_eq-Decides first verb).0 e))
-    go false e = inr (λ b. let same : first ≡ verb = cc in let no : bytes_eq first verb ≡ true = (bytes_eq-Decides first verb).1 same in cc)
+    go : (t : Bool) → bytes_eq first (verb_word verb) ≡ t → BeginsWith verb (first ∷ others) ⊎ (BeginsWith verb (first ∷ others) → ⊥)
+    go true e = inl (others, ap (λ (w : List ℕ). w ∷ others) ((bytes_eq-Decides first (verb_word verb)).0 e))
+    go false e = inr (λ b. let same : first ≡ verb_word verb = cc in let no : bytes_eq first (verb_word verb) ≡ true = (bytes_eq-Decides first (verb_word verb)).1 same in cc)
 
 -- refused words have a cause
 pub causes : (words : List (List ℕ)) → IsRefused words → UsageCause words
-causes words refused = elim (begins_or_not (codes "translate") words) [
-  | inl t ↦ of_translate (translate_cause words t refused)
-  | inr not_t ↦ elim (begins_or_not (codes "judge") words) [
-    | inl j ↦ of_judge (judge_cause words j refused)
-    | inr not_j ↦ unknown_verb not_t not_j
-  ]
+causes words refused = elim (begins_or_not Translates words) [
+  | inl t ↦ verb_cause words Translates t refused
+  | inr not_t ↦ elim (begins_or_not Judges words) [ inl j ↦ verb_cause words Judges j refused | inr not_j ↦ unknown_verb (none not_t not_j) ]
 ]
+  where
+    none : (BeginsWith Translates words → ⊥) → (BeginsWith Judges words → ⊥) → (verb : Verb) → BeginsWith verb words → ⊥
+    none not_t not_j Translates b = not_t b
+    none not_t not_j Judges b = not_j b
 
--- a value of its form is none out of its form
-not_misformed : (is_formed : List ℕ → Bool) (given : Option (List ℕ)) (word : List ℕ) → given ≡ Some word → is_formed word ≡ true → IsMisformed is_formed given → ⊥
-not_misformed is_formed given word is fit m =
-    let both : Some m.word ≡ Some word = sym m.is_given ∙ is in
-    let same : m.word ≡ word = cc in
-    let no : true ≡ false = sym fit ∙ ap is_formed (sym same) ∙ m.misformed in
+-- the first word is that of one verb alone
+one_word : (verb other : Verb) → verb_word verb ≡ verb_word other → verb ≡ other
+one_word Translates Translates e = refl
+one_word Judges Judges e = refl
+one_word Translates Judges e = let no : false ≡ true = (bytes_eq-Decides (codes "translate") (codes "judge")).1 e in absurd cc
+one_word Judges Translates e = let no : false ≡ true = (bytes_eq-Decides (codes "judge") (codes "translate")).1 e in absurd cc
+
+one_verb : (words : List (List ℕ)) (verb other : Verb) → BeginsWith verb words → BeginsWith other words → verb ≡ other
+one_verb words verb other b c =
+    let same : (verb_word verb ∷ b.0) ≡ verb_word other ∷ c.0 = sym b.1 ∙ c.1 in
+    let first : verb_word verb ≡ verb_word other = cc in
+    one_word verb other first
+
+-- values of their forms are none out of them
+not_misformed : (command : App) (words : List (List ℕ)) (ss : List Slot) (vs : List (List ℕ)) → AreValues command words ss vs → AnyMisformed command words ss → ⊥
+not_misformed command words [] vs a m = m
+not_misformed command words (s ∷ ss) [] a m = a
+not_misformed command words (s ∷ ss) (v ∷ vs) a (inl m) =
+    let both : Some m.0 ≡ Some v = sym m.1 ∙ a.0 in
+    let same : m.0 ≡ v = cc in
+    let no : true ≡ false = sym a.1 ∙ ap s.is_formed (sym same) ∙ m.2 in
     cc
-
-one_verb : (words : List (List ℕ)) → BeginsWith (codes "translate") words → BeginsWith (codes "judge") words → ⊥
-one_verb words t j =
-    let same : (codes "translate" ∷ t.0) ≡ codes "judge" ∷ j.0 = sym t.1 ∙ j.1 in
-    let first : codes "translate" ≡ codes "judge" = cc in
-    let no : false ≡ true = (bytes_eq-Decides (codes "translate") (codes "judge")).1 first in
-    absurd cc
-
-fixed_fits : (fixed : List ℕ) → bytes_eq fixed fixed ≡ true
-fixed_fits fixed = (bytes_eq-Decides fixed fixed).1 refl
+not_misformed command words (s ∷ ss) (v ∷ vs) a (inr m) = not_misformed command words ss vs a.2 m
 
 -- words with a cause are refused
 pub refuses : (words : List (List ℕ)) → UsageCause words → IsRefused words
-refuses words (unknown_verb not_t not_j) (Translate t) a = not_t (a.taken.others, a.taken.begins)
-refuses words (unknown_verb not_t not_j) (Judge j) a = not_j (a.taken.others, a.taken.begins)
-refuses words (of_translate c) (Judge j) a = one_verb words c.0 (a.taken.others, a.taken.begins)
-refuses words (of_judge c) (Translate t) a = one_verb words (a.taken.others, a.taken.begins) c.0
-refuses words (of_translate c) (Translate t) a = elim c.1 [
-  | inl faulty ↦ faulty a.taken.faultless
-  | inr (inl m) ↦ not_misformed (bytes_eq (codes "ios")) _ (codes "ios") a.source (fixed_fits (codes "ios")) m
-  | inr (inr (inl m)) ↦ not_misformed is_policy_word _ t.policy a.policy a.policy_form m
-  | inr (inr (inr (inl m))) ↦ not_misformed (bytes_eq (codes "rpl")) _ (codes "rpl") a.target (fixed_fits (codes "rpl")) m
-  | inr (inr (inr (inr (inl m)))) ↦ not_misformed is_new_name _ t.name a.name a.name_form m
-  | inr (inr (inr (inr (inr none)))) ↦ absurd none
-]
-refuses words (of_judge c) (Judge j) a = elim c.1 [
-  | inl faulty ↦ faulty a.taken.faultless
-  | inr (inl m) ↦ not_misformed (bytes_eq (codes "ios")) _ (codes "ios") a.source (fixed_fits (codes "ios")) m
-  | inr (inr (inl m)) ↦ not_misformed is_policy_word _ j.policy a.policy a.policy_form m
-  | inr (inr (inr none)) ↦ absurd none
-]
+refuses words (unknown_verb none) q a = none a.verb a.begins
+refuses words (faulty verb begins f) q a = f (subst (λ (v : Verb). fault_of (app_of_verb v) words ≡ []) (one_verb words a.verb verb a.begins begins) a.faultless)
+refuses words (misformed verb begins m) q a =
+    not_misformed (app_of_verb a.verb) words (slots a.verb) a.values a.formed
+    (subst (λ (v : Verb). AnyMisformed (app_of_verb v) words (slots v)) (one_verb words verb a.verb begins a.begins) m)

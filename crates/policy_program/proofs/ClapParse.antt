@@ -10,18 +10,18 @@ use Rattle.clap.specs.declared.error.Error.{Error}
 use Rattle.clap.specs.declared.error.kind.ErrorKind.TheVariants.{OutOfMemory}
 use Rattle.clap.specs.declared.parser.matches.ArgMatches.{ArgMatches}
 use Rattle.route_types.specs.Words.{when}
-use Rattle.policy_program.specs.ClapCommands.{translate_app, judge_app, is_plain}
-use Rattle.policy_program.specs.Spelled.{ParsesBy, has_none, rows_in}
+use Rattle.policy_program.specs.Words.{Translates, Judges, app_of_verb}
+use Rattle.policy_program.specs.Spelled.{ParsesBy, has_none, is_plain, rows_in}
 use Rattle.policy_program.specs.declared.command.WordsFault.{WordsFault}
 use Rattle.policy_program.specs.declared.command.WordsFault.TheVariants.{Usage, Memory}
 
 -- both commands are simple, and none of their arguments has a rule on another
-pub translate_simple : (command : App) → command ≡ translate_app → is_plain command ≡ true
-unfolding translate_app is_plain
+pub translate_simple : (command : App) → command ≡ app_of_verb Translates → is_plain command ≡ true
+unfolding app_of_verb is_plain
 translate_simple command e = ap is_plain e
 
-pub judge_simple : (command : App) → command ≡ judge_app → is_plain command ≡ true
-unfolding judge_app is_plain
+pub judge_simple : (command : App) → command ≡ app_of_verb Judges → is_plain command ≡ true
+unfolding app_of_verb is_plain
 judge_simple command e = ap is_plain e
 
 -- the first value of a name, by the rows

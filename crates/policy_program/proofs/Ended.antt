@@ -1,226 +1,131 @@
 -- What follows from how a run ends: the headline, exactness and completeness.
-use Rattle.std.proofs.Common.{◌≡◌, ◌⊎◌, inl, inr, refl, sym, ap, subst, ◌∙◌, ℕ, ◌<◌, ◌≤◌, Bool, true, false, List, length, Option, Some, None, Result, Ok, Err, arith}
-use Rattle.std.specs.Prelude.{nat_le, IfSome, IsSomeAnd, is_ok}
-use Rattle.std.proofs.lemmas.Bool.Decides.{nat_tests}
-use Rattle.text_words.specs.declared.statement.Span.{Span}
-use Rattle.policy_text.specs.declared.fault.Cause.{Cause}
-use Rattle.route_types.specs.Route.{RouteParts}
-use Rattle.route_types.specs.RouteText.{SpellsRoute}
-use Rattle.route_types.specs.RouteRead.{route_in}
-use Rattle.route_types.proofs.RouteSpelled.{route_found, route_again}
-use Rattle.ios_tree.specs.Tree.{ios_tree}
-use Rattle.ios_reader.specs.Profile.{first_fault_within}
-use Rattle.policy_outside.specs.Texts.{Texts, text_at, IsTold, IsLonger}
-use Rattle.policy_program.specs.Command.{Request, Translate, Judge, JudgeParts, Accepts, IsRefused}
-use Rattle.policy_program.specs.Checked.{IsNoPolicy, IsFirstFault, IsSound}
-use Rattle.policy_program.specs.Judgement.{IsNotRoute}
-use Rattle.policy_program.specs.Requests.{policy_of, file_of, second_file, taken_by, IsResult, Serves, HasResult}
-use Rattle.policy_program.specs.Ends.{Shelves, Sinks, IsTextOf, IsSecondOf, IsGiven, IsFetched, EndsAs, most_bytes}
-use Rattle.policy_program.specs.Headline.{WritesResult}
-use Rattle.policy_program.specs.Exact.{fitting, fetched, second_text, answer_status, serves, given_status, first_status, right_status, IsRight, IsExact}
-use Rattle.policy_program.specs.Complete.{IsComplete, Completes}
-use Rattle.policy_program.proofs.Words.{accepted_once}
+use Rattle.std.proofs.Common.{◌≡◌, ◌⊎◌, inl, inr, refl, sym, ap, subst, ◌∙◌, ℕ, List, Option, Some, None}
+use Rattle.std.specs.Prelude.{IfSome}
+use Rattle.policy_outside.specs.Texts.{Texts}
+use Rattle.policy_program.specs.Words.{Request, Accepts, IsRefused}
+use Rattle.policy_program.specs.Answer.{Told, CannotRead, IsTooLong, IsBroken, HasNoPolicy, IsOutside, SpellsNoRoute, Answer, Result, Refusal, status_of, status_told}
+use Rattle.policy_program.specs.Requests.{inputs_of, IsResult, IsAtTurn, IsDue, IsServed}
+use Rattle.policy_program.specs.Ends.{Shelves, Sinks, Ends, by_words, by_fetch, refused, written, unwritten, by_memory}
+use Rattle.policy_program.specs.Run.{WritesResult, Completes, IsComplete, IsStatusFor, IsExact}
 use Rattle.policy_program.specs.declared.status.Status.{Status}
-use Rattle.policy_program.specs.declared.status.Status.TheVariants.{Done, Usage, NoPolicy, Outside, FetchFailed, TooLong, WriteFailed, Memory, RouteRefused}
+use Rattle.policy_program.specs.declared.status.Status.TheVariants.{Done, Usage, FetchFailed, WriteFailed, Memory}
+use Rattle.policy_program.proofs.Due.{result_sound, served_not, one_status}
+use Rattle.policy_program.proofs.Words.{accepted_once}
+
+-- a refusal is neither Done nor Usage
+not_done : (about : Told) → status_told about ≡ Done → ⊥
+not_done CannotRead e = cc
+not_done IsTooLong e = cc
+not_done (IsBroken place kind) e = cc
+not_done (HasNoPolicy policy) e = cc
+not_done (IsOutside place cause) e = cc
+not_done (SpellsNoRoute line) e = cc
+
+not_usage : (about : Told) → status_told about ≡ Usage → ⊥
+not_usage CannotRead e = cc
+not_usage IsTooLong e = cc
+not_usage (IsBroken place kind) e = cc
+not_usage (HasNoPolicy policy) e = cc
+not_usage (IsOutside place cause) e = cc
+not_usage (SpellsNoRoute line) e = cc
+
+-- two statuses that are not the same
+clash : {status one other : Status} → status ≡ one → status ≡ other → one ≡ other
+clash is too = sym is ∙ too
+
+-- the status of a result that is due is Done
+due_done : (told : Option Texts) (q : Request) (status : Status) (text : List ℕ) → IsDue told q (Result status text) → status ≡ Done
+due_done told q status text due = (result_sound q due.texts status text due.right).1
 
 -- a run that is done wrote a right result
-pub headline : (words : List (List ℕ)) (shelf : Shelves) (out err : Sinks) (status : Status) → EndsAs words shelf out err status → status ≡ Done → WritesResult words shelf out
-headline words shelf out err status ends is =
-    let done = subst (EndsAs words shelf out err) is ends in
-    record { request = done.request; accepted = done.accepted; source = done.source; second = done.second; given = done.given; text = done.text; right = done.right; received = done.written }
-
--- ---- what the shelf tells
-
-fits : (text : List ℕ) → length text ≤ most_bytes → nat_le (length text) most_bytes ≡ true
-fits text within = grind (arith, nat_tests)
-
-fits_not : (text : List ℕ) → most_bytes < length text → nat_le (length text) most_bytes ≡ false
-fits_not text longer = grind (arith, nat_tests)
-
--- a text that is given is fetched
-text_fetched : (shelf : Shelves) (texts : Texts) (file text : List ℕ) → shelf.before.texts ≡ Some texts → IsTextOf shelf file text → fetched (text_at texts file) ≡ Ok text
-text_fetched shelf texts file text tells is =
-    let told : text_at texts file ≡ Some text = subst (λ (o : Option Texts). IsTold o file text) tells is.told in
-    ap (λ (o : Option (List ℕ)). fetched o) told ∙ ap (λ (t : Bool). fitting t text) (fits text is.within)
-
-second_fetched : (shelf : Shelves) (texts : Texts) (file : Option (List ℕ)) (text : List ℕ) → shelf.before.texts ≡ Some texts → IsSecondOf shelf file text → second_text texts file ≡ Ok text
-second_fetched shelf texts None text tells is = ap (λ (t : List ℕ). Ok t) (sym is)
-second_fetched shelf texts (Some file) text tells is = text_fetched shelf texts file text tells is
-
--- a text that is longer is not
-long_fetched : (found : Option (List ℕ)) → IsSomeAnd found (λ text. most_bytes < length text) → fetched found ≡ Err TooLong
-long_fetched None longer = absurd longer
-long_fetched (Some text) longer = ap (λ (t : Bool). fitting t text) (fits_not text longer)
-
-longer_fetched : (shelf : Shelves) (texts : Texts) (file : List ℕ) → shelf.before.texts ≡ Some texts → IfSome shelf.before.texts (λ ts. IsLonger ts file most_bytes) → fetched (text_at texts file) ≡ Err TooLong
-longer_fetched shelf texts file tells longer =
-    long_fetched (text_at texts file) (subst (λ (o : Option Texts). IfSome o (λ ts. IsLonger ts file most_bytes)) tells longer)
-
--- ---- the right status where its cause stands
-
-right_given : (shelf : Shelves) (texts : Texts) (q : Request) (source second : List ℕ) (status : Status) → shelf.before.texts ≡ Some texts → IsGiven shelf q source second
-    → given_status q source second ≡ status → right_status texts q ≡ status
-unfolding right_status
-right_given shelf texts q source second status tells given is =
-    ap (λ (r : Result (List ℕ) Status). first_status q r (second_text texts (second_file q))) (text_fetched shelf texts (file_of q) source tells given.is_source)
-    ∙ ap (λ (r : Result (List ℕ) Status). first_status q (Ok source) r) (second_fetched shelf texts (second_file q) second tells given.is_second)
-    ∙ is
-
-right_long : (shelf : Shelves) (texts : Texts) (q : Request) (file : List ℕ) → shelf.before.texts ≡ Some texts → IsFetched shelf q file
-    → fetched (text_at texts file) ≡ Err TooLong → right_status texts q ≡ TooLong
-unfolding right_status
-right_long shelf texts q file tells (inl is) long =
-    ap (λ (r : Result (List ℕ) Status). first_status q r (second_text texts (second_file q))) (ap (λ (f : List ℕ). fetched (text_at texts f)) (sym is) ∙ long)
-right_long shelf texts q file tells (inr turn) long =
-    ap (λ (r : Result (List ℕ) Status). first_status q r (second_text texts (second_file q))) (text_fetched shelf texts (file_of q) turn.source tells turn.is_source)
-    ∙ ap (λ (r : Result (List ℕ) Status). first_status q (Ok turn.source) r) (ap (λ (o : Option (List ℕ)). second_text texts o) turn.second ∙ long)
-
-no_policy_status : (q : Request) (source second : List ℕ) → IsNoPolicy source (policy_of q) → given_status q source second ≡ NoPolicy
-unfolding given_status
-no_policy_status q source second none =
-    ap (λ (t : Bool). answer_status t (first_fault_within (taken_by q) (policy_of q) (ios_tree source)) (serves q second)) none
-
-outside_status : (q : Request) (source second : List ℕ) (span : Span) (cause : Cause) → IsFirstFault (taken_by q) source (policy_of q) span cause → given_status q source second ≡ Outside
-unfolding given_status
-outside_status q source second span cause fault =
-    ap (λ (t : Bool). answer_status t (first_fault_within (taken_by q) (policy_of q) (ios_tree source)) (serves q second)) fault.defined
-    ∙ ap (λ (o : Option (Span × Cause)). answer_status true o (serves q second)) fault.first
-
-sound_status : (q : Request) (source second : List ℕ) (t : Bool) → IsSound (taken_by q) source (policy_of q) → serves q second ≡ t → given_status q source second ≡ answer_status true None t
-unfolding given_status
-sound_status q source second t sound is =
-    ap (λ (t : Bool). answer_status t (first_fault_within (taken_by q) (policy_of q) (ios_tree source)) (serves q second)) sound.defined
-    ∙ ap (λ (o : Option (Span × Cause)). answer_status true o (serves q second)) sound.sound
-    ∙ ap (λ (t : Bool). answer_status true None t) is
-
--- a text that spells no route has a bad line
-no_route : (text : List ℕ) (found : Result RouteParts ℕ) → route_in text ≡ found → ((r : RouteParts) → SpellsRoute text r → ⊥) → is_ok found ≡ false
-no_route text (Ok r) is none = absurd (none r (route_found text r is))
-no_route text (Err line) is none = refl
-
-refused_status : (j : JudgeParts) (source second : List ℕ) (line : ℕ) → IsNotRoute source j.policy second line → given_status (Judge j) source second ≡ RouteRefused
-refused_status j source second line refused =
-    sound_status (Judge j) source second false (record { defined = refused.in_profile.defined; sound = refused.in_profile.sound })
-    (no_route second (route_in second) refl refused.none)
-
-serving : (q : Request) (second : List ℕ) → Serves q second → serves q second ≡ true
-serving (Translate t) second is = refl
-serving (Judge j) second is = ap (λ (r : Result RouteParts ℕ). is_ok r) (route_again second is.0 is.1)
-
-done_status : (q : Request) (source second : List ℕ) → HasResult q source second → given_status q source second ≡ Done
-done_status q source second has = sound_status q source second true has.sound (serving q second has.serves)
-
--- what has a right text has a result
-has_result : (q : Request) (source second text : List ℕ) → IsResult q source second text → HasResult q source second
-has_result (Translate t) source second text right = record { sound = right.taken; serves = tt }
-has_result (Judge j) source second text right = record { sound = record { defined = right.in_profile.defined; sound = right.in_profile.sound }; serves = (right.route, right.spelled) }
+pub headline : (words : List (List ℕ)) (shelf : Shelves) (out err : Sinks) (status : Status) → Ends words shelf out err status → status ≡ Done → WritesResult words shelf out
+headline words shelf out err status (by_words none same told) is = let no = clash told.is is in absurd cc
+headline words shelf out err status (by_fetch q file accepted turn rose told) is = let no = clash told.is is in absurd cc
+headline words shelf out err status (refused file about answered told) is = absurd (not_done about (clash told.is is))
+headline words shelf out err status (unwritten cut failed rose line) is = let no = clash failed is in absurd cc
+headline words shelf out err status (by_memory same what short line) is = let no = clash short is in absurd cc
+headline words shelf out err status (written text answered received nothing) is = record {
+  request = answered.request;
+  accepted = answered.accepted;
+  texts = answered.due.texts;
+  given = answered.due.given;
+  text = text;
+  right = subst (λ (s : Status). IsResult answered.request answered.due.texts s text) is answered.due.right;
+  received = received;
+}
 
 -- ---- exactness
 
--- the status of a request that ended so is right for the one that is asked about, which is the same
-moved : (words : List (List ℕ)) (texts : Texts) (p q : Request) (status : Status) → Accepts words p → Accepts words q → right_status texts p ≡ status → right_status texts q ≡ status
-moved words texts p q status one other is = subst (λ (r : Request). right_status texts r ≡ status) (accepted_once words p q one other) is
+usage : (words : List (List ℕ)) (shelf : Shelves) (out err : Sinks) (status : Status) → Ends words shelf out err status → status ≡ Usage → IsRefused words
+usage words shelf out err status (by_words none same told) is = none
+usage words shelf out err status (by_fetch q file accepted turn rose told) is = let no = clash told.is is in absurd cc
+usage words shelf out err status (refused file about answered told) is = absurd (not_usage about (clash told.is is))
+usage words shelf out err status (written text answered received nothing) is = let no = clash (due_done shelf.before.texts answered.request status text answered.due) is in absurd cc
+usage words shelf out err status (unwritten cut failed rose line) is = let no = clash failed is in absurd cc
+usage words shelf out err status (by_memory same what short line) is = let no = clash short is in absurd cc
 
--- every status is right, but for faults of the outside and want of memory
-ends_right : (words : List (List ℕ)) (shelf : Shelves) (out err : Sinks) (status : Status) → EndsAs words shelf out err status
-    → (texts : Texts) → shelf.before.texts ≡ Some texts → (q : Request) → Accepts words q → IsRight (right_status texts q) status
-ends_right words shelf out err Done ends texts tells q accepted =
-    moved words texts ends.request q Done ends.accepted accepted
-    (right_given shelf texts ends.request ends.source ends.second Done tells ends.given
-    (done_status ends.request ends.source ends.second (has_result ends.request ends.source ends.second ends.text ends.right)))
-ends_right words shelf out err Usage ends texts tells q accepted = absurd (ends.refused q accepted)
-ends_right words shelf out err NoPolicy ends texts tells q accepted =
-    moved words texts ends.request q NoPolicy ends.accepted accepted
-    (right_given shelf texts ends.request ends.source ends.second NoPolicy tells ends.given (no_policy_status ends.request ends.source ends.second ends.cause))
-ends_right words shelf out err Outside ends texts tells q accepted =
-    moved words texts ends.request q Outside ends.accepted accepted
-    (right_given shelf texts ends.request ends.source ends.second Outside tells ends.given
-    (outside_status ends.request ends.source ends.second ends.span ends.fault ends.cause))
-ends_right words shelf out err FetchFailed ends texts tells q accepted = tt
-ends_right words shelf out err TooLong ends texts tells q accepted =
-    moved words texts ends.request q TooLong ends.accepted accepted
-    (right_long shelf texts ends.request ends.file tells ends.fetched (longer_fetched shelf texts ends.file tells ends.longer))
-ends_right words shelf out err WriteFailed ends texts tells q accepted =
-    moved words texts ends.request q Done ends.accepted accepted
-    (right_given shelf texts ends.request ends.source ends.second Done tells ends.given
-    (done_status ends.request ends.source ends.second (has_result ends.request ends.source ends.second ends.text ends.right)))
-ends_right words shelf out err Memory ends texts tells q accepted = tt
-ends_right words shelf out err RouteRefused ends texts tells q accepted =
-    moved words texts (Judge ends.asked) q RouteRefused ends.accepted accepted
-    (right_given shelf texts (Judge ends.asked) ends.source ends.second RouteRefused tells ends.given
-    (refused_status ends.asked ends.source ends.second ends.number ends.cause))
-ends_right words shelf out err _ ends texts tells q accepted = absurd ends
+refused_ends : (words : List (List ℕ)) (shelf : Shelves) (out err : Sinks) (status : Status) → Ends words shelf out err status → IsRefused words → (status ≡ Usage) ⊎ (status ≡ Memory)
+refused_ends words shelf out err status (by_words because same told) none = inl told.is
+refused_ends words shelf out err status (by_fetch q file accepted turn rose told) none = absurd (none q accepted)
+refused_ends words shelf out err status (refused file about answered told) none = absurd (none answered.request answered.accepted)
+refused_ends words shelf out err status (written text answered received nothing) none = absurd (none answered.request answered.accepted)
+refused_ends words shelf out err status (unwritten cut failed rose line) none = absurd (none cut.answered.request cut.answered.accepted)
+refused_ends words shelf out err status (by_memory same what short line) none = inr short
 
-where_told : (texts : Option Texts) (P : Texts → Type 0) → ((ts : Texts) → texts ≡ Some ts → P ts) → IfSome texts P
-where_told None P all = tt
-where_told (Some ts) P all = all ts refl
+own : (answer : Answer) (status : Status) → status ≡ status_of answer → IsStatusFor answer status
+own (Result right text) status is = inl is
+own (Refusal file about) status is = inl is
 
--- words that are refused end in Usage, or for want of memory
-ends_refused : (words : List (List ℕ)) (shelf : Shelves) (out err : Sinks) (status : Status) → EndsAs words shelf out err status → IsRefused words → (status ≡ Usage) ⊎ (status ≡ Memory)
-ends_refused words shelf out err Done ends refused = absurd (refused ends.request ends.accepted)
-ends_refused words shelf out err Usage ends refused = inl refl
-ends_refused words shelf out err NoPolicy ends refused = absurd (refused ends.request ends.accepted)
-ends_refused words shelf out err Outside ends refused = absurd (refused ends.request ends.accepted)
-ends_refused words shelf out err FetchFailed ends refused = absurd (refused ends.request ends.accepted)
-ends_refused words shelf out err TooLong ends refused = absurd (refused ends.request ends.accepted)
-ends_refused words shelf out err WriteFailed ends refused = absurd (refused ends.request ends.accepted)
-ends_refused words shelf out err Memory ends refused = inr refl
-ends_refused words shelf out err RouteRefused ends refused = absurd (refused (Judge ends.asked) ends.accepted)
-ends_refused words shelf out err _ ends refused = absurd ends
+fetch_failed : (answer : Answer) (status : Status) → status ≡ FetchFailed → IsStatusFor answer status
+fetch_failed (Result right text) status is = inr (inl is)
+fetch_failed (Refusal file about) status is = inr (inl is)
 
--- the statuses of a run are exact
-pub exact : (words : List (List ℕ)) (shelf : Shelves) (out err : Sinks) (status : Status) → EndsAs words shelf out err status → IsExact words shelf.before.texts status
-exact words shelf out err status ends = record {
-  usage = λ is. (subst (EndsAs words shelf out err) is ends).refused;
-  refused = ends_refused words shelf out err status ends;
-  right = where_told shelf.before.texts (λ ts. (q : Request) → Accepts words q → IsRight (right_status ts q) status) (ends_right words shelf out err status ends);
-}
+memory : (answer : Answer) (status : Status) → status ≡ Memory → IsStatusFor answer status
+memory (Result right text) status is = inr (inr (inl is))
+memory (Refusal file about) status is = inr (inr is)
+
+write_failed : (answer : Answer) (status : Status) → status ≡ WriteFailed → status_of answer ≡ Done → IsStatusFor answer status
+write_failed (Result right text) status is done = inr (inr (inr is))
+write_failed (Refusal file about) status is done = absurd (not_done about done)
+
+-- what is due to the request of a run is due to the one that is asked about, which is the same
+moved : (words : List (List ℕ)) (shelf : Shelves) (texts : Texts) (p q : Request) (answer : Answer) → shelf.before.texts ≡ Some texts → Accepts words p → Accepts words q → IsDue shelf.before.texts p answer
+    → IsDue (Some texts) q answer
+moved words shelf texts p q answer tells first second due =
+    subst (λ (r : Request). IsDue (Some texts) r answer) (accepted_once words p q first second) (subst (λ (o : Option Texts). IsDue o p answer) tells due)
+
+right : (words : List (List ℕ)) (shelf : Shelves) (out err : Sinks) (status : Status) (texts : Texts) (q : Request) (answer : Answer) → Ends words shelf out err status → shelf.before.texts ≡ Some texts
+    → Accepts words q → IsDue (Some texts) q answer → IsStatusFor answer status
+right words shelf out err status texts q answer (by_words none same told) tells accepted due = absurd (none q accepted)
+right words shelf out err status texts q answer (by_fetch p file there turn rose told) tells accepted due = fetch_failed answer status told.is
+right words shelf out err status texts q answer (by_memory same what short line) tells accepted due = memory answer status short
+right words shelf out err status texts q answer (refused file about answered told) tells accepted due =
+    let there = moved words shelf texts answered.request q (Refusal file about) tells answered.accepted accepted answered.due in
+    own answer status (told.is ∙ one_status texts q (Refusal file about) answer there due)
+right words shelf out err status texts q answer (written text answered received nothing) tells accepted due =
+    let there = moved words shelf texts answered.request q (Result status text) tells answered.accepted accepted answered.due in
+    own answer status (one_status texts q (Result status text) answer there due)
+right words shelf out err status texts q answer (unwritten cut failed rose line) tells accepted due =
+    let there = moved words shelf texts cut.answered.request q (Result cut.right cut.text) tells cut.answered.accepted accepted cut.answered.due in
+    write_failed answer status failed (one_status texts q answer (Result cut.right cut.text) due there ∙ due_done (Some texts) q cut.right cut.text there)
+
+pub exact : (words : List (List ℕ)) (shelf : Shelves) (out err : Sinks) (status : Status) → Ends words shelf out err status → IsExact words shelf.before.texts status
+exact words shelf out err status ends = record { usage = usage words shelf out err status ends; refused = refused_ends words shelf out err status ends; right = go shelf.before.texts refl }
+  where
+    go : (o : Option Texts) → shelf.before.texts ≡ o → IfSome o (λ texts. (q : Request) → Accepts words q → (answer : Answer) → IsDue (Some texts) q answer → IsStatusFor answer status)
+    go None tells = tt
+    go (Some texts) tells = λ q accepted answer due. right words shelf out err status texts q answer ends tells accepted due
 
 -- ---- completeness
 
--- the texts of a request are the only ones
-same_text : (shelf : Shelves) (texts : Texts) (file one other : List ℕ) → shelf.before.texts ≡ Some texts → IsTextOf shelf file one → IsTextOf shelf file other → one ≡ other
-same_text shelf texts file one other tells is too =
-    let both : Ok one ≡ Ok other = sym (text_fetched shelf texts file one tells is) ∙ text_fetched shelf texts file other tells too in
-    cc
-
-same_second : (shelf : Shelves) (texts : Texts) (file : Option (List ℕ)) (one other : List ℕ) → shelf.before.texts ≡ Some texts → IsSecondOf shelf file one → IsSecondOf shelf file other → one ≡ other
-same_second shelf texts file one other tells is too =
-    let both : Ok one ≡ Ok other = sym (second_fetched shelf texts file one tells is) ∙ second_fetched shelf texts file other tells too in
-    cc
-
-wrote : (q p : Request) (shelf : Shelves) (texts : Texts) (source second one other text : List ℕ) → p ≡ q → shelf.before.texts ≡ Some texts → IsGiven shelf q source second → IsGiven shelf p one other
-    → IsResult p one other text → IsResult q source second text
-wrote q p shelf texts source second one other text same tells given there right =
-    let here : IsGiven shelf q one other = subst (λ (r : Request). IsGiven shelf r one other) same there in
-    subst (λ (s : List ℕ). IsResult q s second text) (same_text shelf texts (file_of q) one source tells here.is_source given.is_source)
-    (subst (λ (s : List ℕ). IsResult q one s text) (same_second shelf texts (second_file q) other second tells here.is_second given.is_second)
-    (subst (λ (r : Request). IsResult r one other text) same right))
-
--- so ends a run for which Done is right
-completes : (words : List (List ℕ)) (shelf : Shelves) (out err : Sinks) (status : Status) → EndsAs words shelf out err status
-    → (texts : Texts) → shelf.before.texts ≡ Some texts → (q : Request) (source second : List ℕ) → Accepts words q → IsGiven shelf q source second
-    → IsRight Done status → Completes q source second shelf out status
-completes words shelf out err Done ends texts tells q source second accepted given right = record {
-  text = ends.text;
-  right = wrote q ends.request shelf texts source second ends.source ends.second ends.text (accepted_once words ends.request q ends.accepted accepted) tells given ends.given ends.right;
-  received = ends.written;
-}
-completes words shelf out err Usage ends texts tells q source second accepted given right = ends.refused q accepted
-completes words shelf out err FetchFailed ends texts tells q source second accepted given right =
-    let same = accepted_once words ends.request q ends.accepted accepted in
-    record { file = ends.file; fetched = subst (λ (r : Request). IsFetched shelf r ends.file) same ends.fetched; fault = ends.fault }
-completes words shelf out err WriteFailed ends texts tells q source second accepted given right = ends.fault
-completes words shelf out err Memory ends texts tells q source second accepted given right = tt
-completes words shelf out err NoPolicy ends texts tells q source second accepted given right = absurd cc
-completes words shelf out err Outside ends texts tells q source second accepted given right = absurd cc
-completes words shelf out err TooLong ends texts tells q source second accepted given right = absurd cc
-completes words shelf out err RouteRefused ends texts tells q source second accepted given right = absurd cc
-completes words shelf out err _ ends texts tells q source second accepted given right = absurd ends
-
--- a request that has a result gets it
-pub complete : (words : List (List ℕ)) (shelf : Shelves) (out err : Sinks) (status : Status) → EndsAs words shelf out err status → IsComplete words shelf out status
-complete words shelf out err status ends texts tells q source second accepted given has =
-    completes words shelf out err status ends texts tells q source second accepted given
-    (subst (λ (right : Status). IsRight right status) (right_given shelf texts q source second Done tells given (done_status q source second has))
-    (ends_right words shelf out err status ends texts tells q accepted))
+-- a request that is served gets its result
+pub complete : (words : List (List ℕ)) (shelf : Shelves) (out err : Sinks) (status : Status) → Ends words shelf out err status → IsComplete words shelf out status
+complete words shelf out err status (by_words none same told) texts tells q accepted served = absurd (none q accepted)
+complete words shelf out err status (by_fetch p file there turn rose told) texts tells q accepted served =
+    inr (inl (told.is, (file, subst (λ (r : Request). IsAtTurn shelf.before.texts (inputs_of r) file) (accepted_once words p q there accepted) turn, rose)))
+complete words shelf out err status (refused file about answered told) texts tells q accepted served =
+    absurd (served_not texts q file about served (moved words shelf texts answered.request q (Refusal file about) tells answered.accepted accepted answered.due))
+complete words shelf out err status (written text answered received nothing) texts tells q accepted served =
+    inl (text, subst (λ (r : Request). IsDue shelf.before.texts r (Result status text)) (accepted_once words answered.request q answered.accepted accepted) answered.due, received)
+complete words shelf out err status (unwritten cut failed rose line) texts tells q accepted served = inr (inr (inl (failed, rose)))
+complete words shelf out err status (by_memory same what short line) texts tells q accepted served = inr (inr (inr short))

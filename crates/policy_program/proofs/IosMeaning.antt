@@ -10,7 +10,7 @@ use Rattle.route_types.specs.declared.route.Outcome.{Outcome}
 use Rattle.route_types.specs.declared.route.Outcome.TheVariants.{Reject, Accept}
 use Rattle.ios_reader.specs.Entries.{Entry, entries_of}
 use Rattle.ios_reader.specs.Profile.{first_fault_within}
-use Rattle.ios_reader.specs.declared.forms.Forms.TheVariants.{First}
+use Rattle.policy_program.specs.FirstForms.{is_first_form}
 use Rattle.ios_tree.specs.declared.item.IosItem.{IosItem}
 use Rattle.ios_meaning.specs.Order.{in_order}
 use Rattle.ios_meaning.proofs.InOrder.{map_in_order}
@@ -56,7 +56,7 @@ run_is_first all r (e ∷ es) first plain =
     ∙ ap (λ (o : Outcome). pick (plain_holds all r (guard_of e.lines)) (plain_outcome r (plain_entry e)) o) rest
 
 -- for a plain policy that is taken, its plain entries in order of their numbers give its meaning
-pub meaning_is_ordered : (name : List ℕ) (all : List IosItem) (r : RouteParts) → first_fault_within First name all ≡ None → AllByRecursion HasPlainForm all
+pub meaning_is_ordered : (name : List ℕ) (all : List IosItem) (r : RouteParts) → first_fault_within is_first_form name all ≡ None → AllByRecursion HasPlainForm all
     → first_outcome all r (in_order (λ e. e.number) (plain_entries (entries_of name all))) ≡ ios_meaning all name r
 unfolding ios_meaning
 meaning_is_ordered name all r taken plain =

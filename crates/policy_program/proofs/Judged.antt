@@ -1,26 +1,28 @@
--- What was judged on a checked policy is judged for its source.
-use Rattle.std.proofs.Common.{ap, ◌∙◌, ℕ, List, Ok, Err}
-use Rattle.ios_reader.specs.Profile.{PolicyParts}
-use Rattle.ios_tree.specs.declared.item.IosItem.{IosItem}
-use Rattle.ios_reader.specs.declared.forms.Forms.TheVariants.{All}
+-- What was judged on a loaded policy is the answer of judge.
+use Rattle.std.proofs.Common.{inl, inr, refl, ap, ◌∙◌, ℕ, List, [], ◌∷◌, Err}
+use Rattle.route_types.specs.Route.{RouteParts}
+use Rattle.route_types.specs.RouteText.{SpellsRoute, IsFirstBadLine}
+use Rattle.ios_reader.specs.Profile.{PolicyParts, all_forms}
 use Rattle.ios_tree.specs.Tree.{ios_tree}
-use Rattle.ios_meaning.specs.Meaning.{ios_meaning, name_of, first_name}
-use Rattle.policy_program.specs.Checked.{IsChecked}
-use Rattle.policy_program.specs.Translated.{Answer}
-use Rattle.policy_program.specs.Judgement.{outcome_text, Judges}
-use Rattle.policy_program.specs.Judged.{JudgesRoute}
-use Rattle.policy_program.specs.declared.refusal.Refusal.TheVariants.{NoPolicy, Outside, Route, Memory}
+use Rattle.ios_tree.specs.declared.item.IosItem.{IosItem}
+use Rattle.ios_meaning.specs.Meaning.{ios_meaning, name_of}
+use Rattle.policy_program.specs.Source.{OfIos, ios_source}
+use Rattle.policy_program.specs.Results.{outcome_text, IsJudgement}
+use Rattle.policy_program.specs.Answer.{SpellsNoRoute}
+use Rattle.policy_program.specs.Words.{JudgeParts, Judge}
+use Rattle.policy_program.specs.Requests.{IsFirstUnsound, inputs_of}
+use Rattle.policy_program.specs.Layers.{IsLoaded, TellsOutcome}
 
-pub judges : (source policy route_file : List ℕ) (checked : PolicyParts) (answer : Answer) → IsChecked All source policy checked → JudgesRoute checked route_file answer → Judges source policy route_file answer
-judges source policy route_file checked (Ok text) is judged = record {
-  in_profile = is.in_profile;
-  route = judged.0;
-  spelled = judged.1;
-  is = judged.2
-      ∙ ap (λ (items : List IosItem). outcome_text (ios_meaning items (name_of checked) judged.0)) is.read
-      ∙ ap (λ (names : List (List ℕ)). outcome_text (ios_meaning (ios_tree source) (first_name names) judged.0)) is.named;
+pub judged : (source policy route_text text : List ℕ) (checked : PolicyParts) (r : RouteParts) → IsLoaded all_forms source policy checked → SpellsRoute route_text r → TellsOutcome checked r text
+    → IsJudgement (ios_source policy source) route_text text
+judged source policy route_text text checked r loaded spelled tells = record {
+  policy = OfIos (ios_tree source) policy;
+  loads = loaded.loads;
+  route = r;
+  spelled = spelled;
+  is = tells ∙ ap (λ (c : PolicyParts). outcome_text (ios_meaning c.items (name_of c) r)) loaded.is;
 }
-judges source policy route_file checked (Err NoPolicy) is judged = absurd judged
-judges source policy route_file checked (Err (Outside span cause)) is judged = absurd judged
-judges source policy route_file checked (Err (Route line)) is judged = record { in_profile = is.in_profile; first = judged.0; none = judged.1 }
-judges source policy route_file checked (Err Memory) is judged = tt
+
+pub no_route : (j : JudgeParts) (source route_text : List ℕ) (checked : PolicyParts) (line : ℕ) → IsLoaded all_forms source j.policy checked → IsFirstBadLine route_text line
+    → IsFirstUnsound all_forms (inputs_of (Judge j)) (source ∷ route_text ∷ []) j.route_file (SpellsNoRoute line)
+no_route j source route_text checked line loaded first = inr ((OfIos (ios_tree source) j.policy, loaded.loads), inl (refl, (line, refl, first)))

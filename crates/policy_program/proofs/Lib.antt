@@ -20,8 +20,11 @@ pub mod ClapValues
 pub mod OnLiterals
 pub mod Words
 pub mod Told
+pub mod Loaded
 pub mod Judged
-pub mod Ended
+pub mod Fetched
 pub mod Right
-pub mod RunExamples
+pub mod Due
 pub mod Endings
+pub mod Ended
+mod RunExamples

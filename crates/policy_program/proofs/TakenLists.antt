@@ -1,20 +1,21 @@
 -- The lists that the entries of a policy name are reached, and where the policy is taken their entries permit.
-use Rattle.std.proofs.Common.{◌≡◌, refl, sym, subst, Bool, true, false, ◌&&◌, ◌||◌, List, [], ◌∷◌, ◌++◌, ℕ, Option, Some, None}
-use Rattle.std.specs.Prelude.{IfSome, bytes_eq}
+use Rattle.std.proofs.Common.{◌≡◌, refl, sym, subst, Bool, true, false, ◌&&◌, ◌||◌, List, [], ◌∷◌, ℕ, Option, Some, None}
+use Rattle.std.specs.Prelude.{IfSome, ◌==◌, bytes_eq}
 use Rattle.std.specs.List.{list_any, AllByRecursion}
 use Rattle.std.proofs.lemmas.Bool.{and_parts}
 use Rattle.std.proofs.lemmas.Slice.Eq.{bytes_eq-Decides}
-use Rattle.route_types.specs.Address.{same_family}
+use Rattle.route_types.specs.Address.{same_family, width}
 use Rattle.route_types.specs.declared.address.Family.{Family}
 use Rattle.route_types.specs.declared.address.Family.TheVariants.{V4, V6}
 use Rattle.policy_text.specs.Names.{is_named}
 use Rattle.text_words.specs.declared.statement.Span.{Span}
 use Rattle.ios_tree.specs.Tree.{family_of, is_of_list}
 use Rattle.ios_tree.specs.Sorts.{is_line, heads}
-use Rattle.ios_reader.specs.Entries.{Entry, onto_lines, lines_below, entry_from, entries_of}
-use Rattle.ios_reader.specs.Lines.{names_prefix_list}
-use Rattle.ios_reader.specs.Profile.{lines_of, fault_at, is_unknown, first_fault_within}
-use Rattle.ios_reader.specs.declared.forms.Forms.TheVariants.{First}
+use Rattle.ios_reader.specs.Entries.{Entry, onto_lines, lines_below, entry_from, entries_of, lines_of}
+use Rattle.ios_reader.specs.Items.{sort_code}
+use Rattle.ios_reader.specs.Lines.{names_list}
+use Rattle.ios_reader.specs.Profile.{first_fault_within}
+use Rattle.policy_program.specs.FirstForms.{is_first_form}
 use Rattle.ios_tree.specs.declared.item.ItemSort.{ItemSort}
 use Rattle.ios_tree.specs.declared.item.ItemSort.TheVariants.{PrefixList, CommunityList, PathList, Map}
 use Rattle.ios_tree.specs.declared.item.ItemSort.TheVariants.{Line as LineSort}
@@ -27,11 +28,11 @@ use Rattle.ios_tree.specs.declared.item.MapLine.TheVariants.{MatchPrefix}
 use Rattle.ios_tree.specs.declared.item.PrefixListEntry.{PrefixListEntry}
 use Rattle.ios_meaning.specs.Lists.{prefix_entry_from, prefix_entries}
 use Rattle.policy_program.specs.Plan.{IsPlainLine, Plain, first_name, guard_of, plain_entries}
-use Rattle.policy_program.proofs.Taken.{Sound, sound_parts, form_taken}
+use Rattle.policy_program.proofs.Taken.{Sound, IsFine, sound_parts, form_taken}
 
 -- a line of the map names the list
 abbrev pub IsReached : List ℕ → List IosItem → Family → List ℕ → Type 0
-IsReached name all family list = list_any (names_prefix_list family list) (lines_of name false all) ≡ true
+IsReached name all family list = list_any (names_list list (sort_code (PrefixList family)) 0) (lines_of name false all) ≡ true
 
 -- ---- the entries of a list that is reached
 
@@ -45,19 +46,19 @@ family_is V4 V6 e = absurd cc
 family_is V6 V4 e = absurd cc
 
 entry_permits : (name : List ℕ) (all before : List IosItem) (family : Family) (list : List ℕ) (e : PrefixListEntry) (s : Span) → IsReached name all family list → is_of_list family list e ≡ true
-    → fault_at (is_unknown First) name all before (record { form = PrefixEntry e; span = s }) ≡ None → Permits e
+    → IsFine name all before (PrefixEntry e) → Permits e
 entry_permits name all before family list e s reached of none =
     let parts = and_parts (same_family family (family_of e)) (bytes_eq list e.list) of in
-    let here : list_any (names_prefix_list (family_of e) e.list) (lines_of name false all) ≡ true =
+    let here : IsReached name all (family_of e) e.list =
     subst (λ (n : List ℕ). IsReached name all (family_of e) n) ((bytes_eq-Decides list e.list).0 parts.1) (subst (λ (v : Family). IsReached name all v list) (family_is family (family_of e) parts.0) reached) in
-    (and_parts e.has_seq e.entry.permit (form_taken name all before (record { form = PrefixEntry e; span = s }) here none)).1
+    (and_parts e.has_seq e.entry.permit (form_taken name all before (PrefixEntry e) here none)).1
 
 of_list_permits : (e : PrefixListEntry) (rest : List PrefixListEntry) (b : Bool) → (b ≡ true → Permits e) → AllByRecursion Permits rest → AllByRecursion Permits (elim b [ true ↦ e ∷ rest | false ↦ rest ])
 of_list_permits e rest true here behind = (here refl, behind)
 of_list_permits e rest false here behind = behind
 
 form_permits : (name : List ℕ) (all before : List IosItem) (family : Family) (list : List ℕ) (form : IosForm) (s : Span) (rest : List PrefixListEntry) → IsReached name all family list
-    → fault_at (is_unknown First) name all before (record { form = form; span = s }) ≡ None → AllByRecursion Permits rest → AllByRecursion Permits (prefix_entry_from family list form rest)
+    → IsFine name all before form → AllByRecursion Permits rest → AllByRecursion Permits (prefix_entry_from family list form rest)
 form_permits name all before family list (PrefixEntry e) s rest reached none behind =
     of_list_permits e rest (is_of_list family list e) (λ of. entry_permits name all before family list e s reached of none) behind
 form_permits name all before family list (PrefixDescription d) s rest reached none behind = behind
@@ -71,10 +72,10 @@ items_permit : (name : List ℕ) (all : List IosItem) (family : Family) (list : 
 items_permit name all family list [] before reached sound = tt
 items_permit name all family list (i ∷ is) before reached sound =
     let parts = sound_parts name all before i is sound in
-    form_permits name all before family list i.form i.span (prefix_entries family list is) reached parts.0 (items_permit name all family list is (before ++ i ∷ []) reached parts.1)
+    form_permits name all before family list i.form i.span (prefix_entries family list is) reached parts.0 (items_permit name all family list is (i ∷ before) reached parts.1)
 
 -- the entries of a list that a policy names permit where the policy is taken
-pub entries_permit : (name : List ℕ) (all : List IosItem) (family : Family) (list : List ℕ) → first_fault_within First name all ≡ None → IsReached name all family list
+pub entries_permit : (name : List ℕ) (all : List IosItem) (family : Family) (list : List ℕ) → first_fault_within is_first_form name all ≡ None → IsReached name all family list
     → AllByRecursion (λ e. e.entry.permit ≡ true) (prefix_entries family list all)
 unfolding first_fault_within
 entries_permit name all family list taken reached = items_permit name all family list all [] reached taken
@@ -152,18 +153,18 @@ entries_have name [] inside = tt
 entries_have name (i ∷ is) inside = form_has name is i.form i.span inside (entries_have name is)
 
 match_named : (family : Family) (lists : List (List ℕ)) (list : List ℕ) (rest : Option (List ℕ)) (b : Bool) → family ≡ V4 → (rest ≡ Some list → b ≡ true) → first_name lists rest ≡ Some list
-    → ((same_family V4 family && list_any (bytes_eq list) lists) || b) ≡ true
-match_named family [] list rest b v4 more e = or_right (same_family V4 family && false) b (more e)
+    → (((width V4 == width family) && list_any (bytes_eq list) lists) || b) ≡ true
+match_named family [] list rest b v4 more e = or_right ((width V4 == width family) && false) b (more e)
 match_named family (name ∷ names) list rest b v4 more e =
     let same : name ≡ list = cc in
     let one : bytes_eq list name ≡ true = (bytes_eq-Decides list name).1 (sym same) in
     rw (v4, one) refl
 
 -- the lines name the list of their guard
-guard_named : (lines : List MapLine) (list : List ℕ) → AllByRecursion IsPlainLine lines → guard_of lines ≡ Some list → list_any (names_prefix_list V4 list) lines ≡ true
+guard_named : (lines : List MapLine) (list : List ℕ) → AllByRecursion IsPlainLine lines → guard_of lines ≡ Some list → list_any (names_list list (sort_code (PrefixList V4)) 0) lines ≡ true
 guard_named [] list plain e = absurd cc
-guard_named (MatchPrefix m ∷ ls) list plain e = match_named m.family m.lists list (guard_of ls) (list_any (names_prefix_list V4 list) ls) plain.0 (guard_named ls list plain.1) e
-guard_named (l ∷ ls) list plain e = or_right (names_prefix_list V4 list l) (list_any (names_prefix_list V4 list) ls) (guard_named ls list plain.1 e)
+guard_named (MatchPrefix m ∷ ls) list plain e = match_named m.family m.lists list (guard_of ls) (list_any (names_list list (sort_code (PrefixList V4)) 0) ls) plain.0 (guard_named ls list plain.1) e
+guard_named (l ∷ ls) list plain e = or_right (names_list list (sort_code (PrefixList V4)) 0 l) (list_any (names_list list (sort_code (PrefixList V4)) 0) ls) (guard_named ls list plain.1 e)
 
 -- the list that guards an entry, if one does, is reached
 abbrev pub HasReachedGuard : List ℕ → List IosItem → Plain → Type 0
@@ -171,7 +172,7 @@ HasReachedGuard name all e = IfSome e.guard (IsReached name all V4)
 
 guard_reached : (name : List ℕ) (all : List IosItem) (e : Entry) (guard : Option (List ℕ)) → HasLines (lines_of name false all) e → AllByRecursion IsPlainLine e.lines → guard_of e.lines ≡ guard → IfSome guard (IsReached name all V4)
 guard_reached name all e None has plain is = tt
-guard_reached name all e (Some list) has plain is = has (names_prefix_list V4 list) (guard_named e.lines list plain is)
+guard_reached name all e (Some list) has plain is = has (names_list list (sort_code (PrefixList V4)) 0) (guard_named e.lines list plain is)
 
 guards_of : (name : List ℕ) (all : List IosItem) (es : List Entry) → AllByRecursion (HasLines (lines_of name false all)) es → AllByRecursion (λ e. AllByRecursion IsPlainLine e.lines) es
     → AllByRecursion (HasReachedGuard name all) (plain_entries es)

@@ -8,7 +8,7 @@ use Rattle.route_types.specs.declared.address.Family.TheVariants.{V4}
 use Rattle.prefix_sets.specs.Range.{in_range}
 use Rattle.ios_reader.specs.Entries.{Entry, entries_of}
 use Rattle.ios_reader.specs.Profile.{first_fault_within}
-use Rattle.ios_reader.specs.declared.forms.Forms.TheVariants.{First}
+use Rattle.policy_program.specs.FirstForms.{is_first_form}
 use Rattle.ios_tree.specs.declared.item.IosItem.{IosItem}
 use Rattle.ios_tree.specs.declared.item.PrefixListEntry.{PrefixListEntry}
 use Rattle.ios_meaning.specs.Order.{in_order}
@@ -48,7 +48,7 @@ pub record AreListsOf (items : List IosItem) (lists : Lists) (listed : List Pref
   pub at : (q : List ℕ) → ranges_at lists q ≡ ranges_named q listed
 
 -- a list that is reached holds a prefix as it does in the tree
-holds_alike : (policy : List ℕ) (items : List IosItem) (lists : Lists) (listed : List PrefixListEntry) (r : RouteParts) → first_fault_within First policy items ≡ None → AreListsOf items lists listed
+holds_alike : (policy : List ℕ) (items : List IosItem) (lists : Lists) (listed : List PrefixListEntry) (r : RouteParts) → first_fault_within is_first_form policy items ≡ None → AreListsOf items lists listed
     → (q : List ℕ) → IsReached policy items V4 q → HoldsAlike lists items r q
 holds_alike policy items lists listed r taken of q reached =
     ap (list_any (λ range. in_range range r.prefix)) (of.at q) ∙ ranges_hold r.prefix q items listed of.plain of.gathered (entries_permit policy items V4 q taken reached)
@@ -64,7 +64,7 @@ guards_alike policy items lists r (e ∷ es) alike reached =
     (if_reached (IsReached policy items V4) (HoldsAlike lists items r) e.guard alike reached.0, guards_alike policy items lists r es alike reached.1)
 
 -- the text of the ordered entries writes the policy
-pub writes : (items : List IosItem) (policy name text : List ℕ) (lists : Lists) (listed : List PrefixListEntry) (es : List Plain) → first_fault_within First policy items ≡ None → AreListsOf items lists listed
+pub writes : (items : List IosItem) (policy name text : List ℕ) (lists : Lists) (listed : List PrefixListEntry) (es : List Plain) → first_fault_within is_first_form policy items ≡ None → AreListsOf items lists listed
     → es ≡ in_order_of policy items → IsTextOf lists es name text → Writes items policy text name
 writes items policy name text lists listed es taken of ordered made =
     let entries = plain_entries (entries_of policy items) in

@@ -1,9 +1,7 @@
 -- Worked examples that the checker computes.
 use Rattle.std.proofs.Common.{refl, List, [], ◌∷◌, ◌++◌, ℕ}
 use Rattle.std.specs.Prelude.{codes}
-use Rattle.clap.proofs.OnLiterals.{clap_on_literals}
-use Rattle.policy_program.specs.ClapCommands.{translate_app, judge_app}
-use Rattle.policy_program.specs.Command.{Translate, Judge, TranslateParts, JudgeParts, Accepts, IsRefused}
+use Rattle.policy_program.specs.Words.{Translate, Judge, TranslateParts, JudgeParts, Accepts, IsRefused}
 use Rattle.policy_program.proofs.OnLiterals.{words_on_literals}
 use Rattle.policy_program.proofs.Words.{request_found, refused_by_none}
 
@@ -26,21 +24,12 @@ behind_verb others = codes "translate" ∷ others
 ten : Accepts
     (codes "translate" ∷ codes "--from" ∷ codes "ios" ∷ codes "--policy" ∷ codes "IN" ∷ codes "--to" ∷ codes "rpl" ∷ codes "--as" ∷ codes "in" ∷ codes "in.cfg" ∷ [])
     (Translate translation)
-unfolding translate_app clap_on_literals
-ten = record {
-  taken = record { others = _; begins = refl; faultless = refl };
-  source = refl;
-  policy = refl;
-  target = refl;
-  name = refl;
-  file = refl;
-  policy_form = refl;
-  name_form = refl;
-}
+unfolding words_on_literals
+ten = request_found _ (Translate translation) refl
 
 seven : Accepts (codes "judge" ∷ codes "--from" ∷ codes "ios" ∷ codes "--policy" ∷ codes "A,B" ∷ codes "in.cfg" ∷ codes "route.txt" ∷ []) (Judge judgement)
-unfolding judge_app clap_on_literals
-seven = record { taken = record { others = _; begins = refl; faultless = refl }; source = refl; policy = refl; file = refl; route_file = refl; policy_form = refl }
+unfolding words_on_literals
+seven = request_found _ (Judge judgement) refl
 
 -- options behind the file, in another order, and a value behind `=`
 other_order : Accepts (codes "translate" ∷ codes "in.cfg" ∷ codes "--as" ∷ codes "in" ∷ codes "--policy=IN" ∷ to_rpl ++ from_ios) (Translate translation)

@@ -1,68 +1,141 @@
--- How the layers of a run end: writing a finished text, answering a request whose texts are at hand, and fetching them.
-use Rattle.std.specs.Prelude.{◌≡◌, ℕ, List, [], Option, Some, None, Ok, Err}
-use Rattle.policy_outside.specs.Shelf.{ShelfView, Fetched, Fetches}
-use Rattle.policy_program.specs.Command.{Request}
-use Rattle.policy_program.specs.Requests.{file_of, second_file, Answers}
-use Rattle.policy_program.specs.Translated.{Answer}
-use Rattle.policy_program.specs.Lines.{unwritten_line, memory_line}
-use Rattle.policy_program.specs.Refused.{refusal_status, refusal_line}
-use Rattle.policy_program.specs.Unfetched.{fault_status, fault_line}
-use Rattle.policy_program.specs.Ends.{most_bytes, Shelves, Sinks, ReceivedNothing, Received, ReceivedPrefix, ReceivedLine, FaultsRose, ShortagesRose}
+-- How the layers of a run end, as the code has them: loading, a verb's answer on its texts, fetching, and writing.
+use Rattle.std.specs.Prelude.{◌≡◌, ℕ, true, List, [], ◌∷◌, Ok, Err, Result as Outcome, Vec}
+use Rattle.std.specs.declared.alloc.Global.{Global}
+use Rattle.policy_outside.specs.declared.faults.PutFault.{PutFault}
+use Rattle.policy_outside.specs.declared.faults.PutFault.TheVariants.{Failed, Memory as NoRoom}
+use Rattle.policy_outside.specs.Shelf.{ShelfView, SameFaults, FaultRose}
+use Rattle.policy_outside.specs.Sink.{Puts}
+use Rattle.policy_text.specs.declared.fault.CheckFault.{CheckFault}
+use Rattle.policy_text.specs.declared.fault.CheckFault.TheVariants.{NoPolicy as NotThere, Outside as NotInProfile, Memory as NotChecked}
+use Rattle.route_types.specs.Route.{RouteParts}
+use Rattle.ios_tree.specs.Tree.{ios_tree}
+use Rattle.ios_reader.specs.Profile.{PolicyParts}
+use Rattle.ios_meaning.specs.Meaning.{ios_meaning, name_of}
+use Rattle.rpl_reader.specs.Written.{is_new_name}
+use Rattle.policy_program.specs.Source.{Taken, Rpl, Load, Loaded, NoPolicy, Outside, OfIos, Loads, ios_source}
+use Rattle.policy_program.specs.FirstForms.{is_first_form}
+use Rattle.policy_program.specs.Results.{IsTranslation, outcome_text}
+use Rattle.policy_program.specs.Lines.{place_in}
+use Rattle.policy_program.specs.Answer.{Told, CannotRead, IsTooLong, HasNoPolicy, IsOutside, SpellsNoRoute, Result, Refusal, status_told, line_told, unwritten_line, memory_line}
+use Rattle.policy_program.specs.Words.{Request, Translate, Judge}
+use Rattle.policy_program.specs.Requests.{Input, inputs_of, file_in, RightAnswer, IsTextOf, HasNoText}
+use Rattle.policy_program.specs.Ends.{Shelves, Sinks, ReceivedNothing, ReceivedLine, Tells}
+use Rattle.policy_program.specs.declared.refusal.Fault.{Fault}
+use Rattle.policy_program.specs.declared.refusal.Fault.TheVariants.{Refused, Memory}
+use Rattle.policy_program.specs.declared.refusal.Told.{Told as ToldOf}
+use Rattle.policy_program.specs.declared.refusal.Told.TheVariants as told
+use Rattle.policy_program.specs.declared.request.Output.{Output}
 use Rattle.policy_program.specs.declared.status.Status.{Status}
-use Rattle.policy_program.specs.declared.status.Status.TheVariants.{Done, Same, Differ, Usage, Broken, NoPolicy, Outside, Inexpressible, FetchFailed, TooLong, WriteFailed, Memory, RouteRefused}
+use Rattle.policy_program.specs.declared.status.Status.TheVariants.{WriteFailed, Memory as OutOfMemory}
 
--- what stands with the status of writing a text
-abbrev pub WritesAs : List ℕ → Sinks → Sinks → Status → Type 0
-WritesAs text out err Done = Received out text × ReceivedNothing err
-WritesAs text out err Same = ⊥
-WritesAs text out err Differ = ⊥
-WritesAs text out err Usage = ⊥
-WritesAs text out err Broken = ⊥
-WritesAs text out err NoPolicy = ⊥
-WritesAs text out err Outside = ⊥
-WritesAs text out err Inexpressible = ⊥
-WritesAs text out err FetchFailed = ⊥
-WritesAs text out err TooLong = ⊥
-WritesAs text out err WriteFailed = FaultsRose out × ReceivedPrefix out text × ReceivedLine err unwritten_line
-WritesAs text out err Memory = ShortagesRose out × ReceivedPrefix out text × ReceivedLine err memory_line
-WritesAs text out err RouteRefused = ⊥
+-- what a refusal of the code tells
+abbrev pub told_of : ToldOf → Told
+told_of told.CannotRead = CannotRead
+told_of told.IsTooLong = IsTooLong
+told_of (told.HasNoPolicy policy) = HasNoPolicy policy.now
+told_of (told.IsOutside place cause) = IsOutside place cause
+told_of (told.SpellsNoRoute line) = SpellsNoRoute line
 
--- what stands with the status of telling an answer: a text is written, a refusal is one line on `err`
-abbrev pub TellsAs : Request → List ℕ → Sinks → Sinks → Status → Answer → Type 0
-TellsAs q source out err status (Ok text) = WritesAs text.items out err status
-TellsAs q source out err status (Err refusal) = (status ≡ refusal_status refusal) × ReceivedNothing out × ReceivedLine err (refusal_line q source refusal)
+-- ---- loading
 
--- a request was answered on its texts, and the answer told
-pub record AnswersAs (q : Request) (source second : List ℕ) (out err : Sinks) (status : Status) : Type 0 where
-  pub answer : Answer
-  pub right : Answers q source second answer
-  pub told : TellsAs q source out err status answer
+-- a fault of a load, of the policy of this name in an IOS text
+abbrev pub FailsToLoad : Taken → List ℕ → List ℕ → CheckFault → Type 0
+FailsToLoad taken text policy (NotThere place) = Loads taken (ios_source policy text) (NoPolicy place)
+FailsToLoad taken text policy (NotInProfile span cause) = Loads taken (ios_source policy text) (Outside span cause)
+FailsToLoad taken text policy NotChecked = Unit {0}
 
--- what stands with the status of telling what the second fetch answered
-abbrev pub TellsSecond : Request → List ℕ → List ℕ → Sinks → Sinks → Status → Fetched → Type 0
-TellsSecond q source file out err status (Ok second) = AnswersAs q source second.items out err status
-TellsSecond q source file out err status (Err fault) = (status ≡ fault_status fault) × ReceivedNothing out × ReceivedLine err (fault_line file fault)
+-- the policy of this name in an IOS text, read and checked
+pub record IsLoaded (taken : Taken) (text policy : List ℕ) (checked : PolicyParts) : Type 0 where
+  pub is : checked ≡ record { items = ios_tree text; names = policy ∷ [] }
+  pub loads : Loads taken (ios_source policy text) (Loaded (OfIos (ios_tree text) policy))
 
--- the second file of a request was fetched, and what came of it told
-pub record SecondAs (q : Request) (source file : List ℕ) (shelf : Shelves) (out err : Sinks) (status : Status) : Type 0 where
-  pub fetched : Fetched
-  pub fetch : Fetches shelf.before shelf.now file most_bytes fetched
-  pub told : TellsSecond q source file out err status fetched
+-- what translation from IOS to RPL answers
+abbrev pub TranslatesTo : List ℕ → List ℕ → List ℕ → Outcome (Vec ℕ Global) CheckFault → Type 0
+TranslatesTo text policy name (Ok written) = IsTranslation (ios_source policy text) Rpl name written.items
+TranslatesTo text policy name (Err fault) = FailsToLoad is_first_form text policy fault
 
--- a request whose source is at hand goes on: without a second file it is answered, and the shelf is left alone
-abbrev pub GoesOn : Request → List ℕ → Option (List ℕ) → Shelves → Sinks → Sinks → Status → Type 0
-GoesOn q source None shelf out err status = (shelf.now ≡ shelf.before) × AnswersAs q source [] out err status
-GoesOn q source (Some file) shelf out err status = SecondAs q source file shelf out err status
+-- the fault refuses the file, and tells this of it
+abbrev pub Refuses : Fault → List ℕ → Told → Type 0
+Refuses (Refused r) file about = (r.file.now ≡ file) × (told_of r.told ≡ about)
+Refuses Memory file about = ⊥
 
--- what stands with the status of telling what the first fetch answered; it left the shelf as `shelf.before`
-abbrev pub TellsFirst : Request → Shelves → Sinks → Sinks → Status → Fetched → Type 0
-TellsFirst q shelf out err status (Ok source) = GoesOn q source.items (second_file q) shelf out err status
-TellsFirst q shelf out err status (Err fault) =
-    (shelf.now ≡ shelf.before) × (status ≡ fault_status fault) × ReceivedNothing out × ReceivedLine err (fault_line (file_of q) fault)
+-- a fault of a load is told of its file
+abbrev pub TellsLoad : List ℕ → List ℕ → List ℕ → CheckFault → Fault → Type 0
+TellsLoad file policy text (NotThere place) fault = Refuses fault file (HasNoPolicy policy)
+TellsLoad file policy text (NotInProfile span cause) fault = Refuses fault file (IsOutside (place_in text span.start) cause)
+TellsLoad file policy text NotChecked fault = fault ≡ Memory
 
--- the source of a request was fetched, and what came of it told
-pub record FetchesAndAnswers (q : Request) (shelf : Shelves) (out err : Sinks) (status : Status) : Type 0 where
-  pub fetched : Fetched
+-- ---- answering
+
+-- the text says what the checked policy makes of the route
+abbrev pub TellsOutcome : PolicyParts → RouteParts → List ℕ → Type 0
+TellsOutcome checked r text = text ≡ outcome_text (ios_meaning checked.items (name_of checked) r)
+
+-- the answer is right on these texts, or it is want of memory
+abbrev pub AnswersOn : Request → List (List ℕ) → Outcome Output Fault → Type 0
+AnswersOn q texts (Ok output) = RightAnswer q texts (Result output.status output.text.items)
+AnswersOn q texts (Err (Refused r)) = RightAnswer q texts (Refusal r.file.now (told_of r.told))
+AnswersOn q texts (Err Memory) = Unit {0}
+
+-- a new name in the request is of its form
+abbrev pub IsWellNamed : Request → Type 0
+IsWellNamed (Translate t) = is_new_name t.name ≡ true
+IsWellNamed (Judge j) = Unit {0}
+
+-- ---- fetching
+
+-- what a failed fetch tells of the file, by what the shelf says
+abbrev pub FailsToFetch : ShelfView → ShelfView → List ℕ → Told → Type 0
+FailsToFetch before now file CannotRead = FaultRose before now file
+FailsToFetch before now file IsTooLong = SameFaults before now × HasNoText before.texts file IsTooLong
+FailsToFetch before now file _ = ⊥
+
+-- the text of a file, or why there is none
+abbrev pub FetchesText : ShelfView → ShelfView → List ℕ → Outcome (Vec ℕ Global) Fault → Type 0
+FetchesText before now file (Ok text) = SameFaults before now × IsTextOf before.texts file text.items
+FetchesText before now file (Err (Refused r)) = (r.file.now ≡ file) × FailsToFetch before now file (told_of r.told)
+FetchesText before now file (Err Memory) = SameFaults before now
+
+-- what goes on where a text was fetched; where none was, that is the answer
+abbrev pub GoesOn : (ShelfView → List ℕ → Type 0) → ShelfView → ShelfView → Outcome Output Fault → Outcome (Vec ℕ Global) Fault → Type 0
+GoesOn on between now answer (Ok text) = on between text.items
+GoesOn on between now answer (Err fault) = (now ≡ between) × (answer ≡ Err fault)
+
+-- a file is fetched, and then it goes on
+pub record Fetches (on : ShelfView → List ℕ → Type 0) (before now : ShelfView) (file : List ℕ) (answer : Outcome Output Fault) : Type 0 where
+  pub fetched : Outcome (Vec ℕ Global) Fault
   pub between : ShelfView
-  pub fetch : Fetches shelf.before between (file_of q) most_bytes fetched
-  pub told : TellsFirst q (record { before = between; now = shelf.now }) out err status fetched
+  pub same_texts : between.texts ≡ before.texts
+  pub fetch : FetchesText before between file fetched
+  pub goes_on : GoesOn on between now answer fetched
+
+-- the files are fetched one by one, and then it is answered on their texts
+abbrev pub FetchesAll : (List (List ℕ) → Outcome Output Fault → Type 0) → ShelfView → ShelfView → List Input → Outcome Output Fault → Type 0
+FetchesAll answers before now [] answer = (now ≡ before) × answers [] answer
+FetchesAll answers before now (i ∷ is) answer = Fetches (λ between text. FetchesAll (λ ts. answers (text ∷ ts)) between now is answer) before now (file_in i) answer
+
+-- ---- telling
+
+-- a text was put, with the status of the result where it was put whole
+abbrev pub TellsPut : Status → Sinks → Status → Outcome (Unit {0}) PutFault → Type 0
+TellsPut right err status (Ok _) = (status ≡ right) × ReceivedNothing err
+TellsPut right err status (Err Failed) = (status ≡ WriteFailed) × ReceivedLine err unwritten_line
+TellsPut right err status (Err NoRoom) = (status ≡ OutOfMemory) × ReceivedLine err memory_line
+
+-- a result is written, and what came of it told
+pub record Writes (output : Output) (out err : Sinks) (status : Status) : Type 0 where
+  pub put : Outcome (Unit {0}) PutFault
+  pub puts : Puts out.before out.now output.text.items put
+  pub told : TellsPut output.status err status put
+
+-- an answer is told: a result is written, a refusal is one line on `err`
+abbrev pub TellsAnswer : Sinks → Sinks → Status → Outcome Output Fault → Type 0
+TellsAnswer out err status (Ok output) = Writes output out err status
+TellsAnswer out err status (Err (Refused r)) = Tells out err status (status_told (told_of r.told)) (line_told r.file.now (told_of r.told))
+TellsAnswer out err status (Err Memory) = Tells out err status OutOfMemory memory_line
+
+-- a request was answered, and the answer told
+pub record AnswersRequest (q : Request) (shelf : Shelves) (out err : Sinks) (status : Status) : Type 0 where
+  pub answer : Outcome Output Fault
+  pub comes : FetchesAll (AnswersOn q) shelf.before shelf.now (inputs_of q) answer
+  pub told : TellsAnswer out err status answer

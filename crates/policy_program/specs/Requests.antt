@@ -1,57 +1,121 @@
--- What is said of a request of any verb: its policy, its files, the forms that it takes, and its right result.
-use Rattle.std.specs.Prelude.{◌≡◌, ℕ, List, Option, Some, None, true}
-use Rattle.ios_reader.specs.declared.forms.Forms.{Forms}
-use Rattle.ios_reader.specs.declared.forms.Forms.TheVariants.{All, First}
+-- A request as data: its files in the order in which they are fetched, what is read of each, and its right answer.
+use Rattle.std.specs.Prelude.{◌≡◌, ℕ, ◌≤◌, ◌⊎◌, List, [], ◌∷◌, length, map, Option, Some, None, slice_get, unwrap_or}
+use Rattle.policy_outside.specs.Texts.{Texts, text_at, IsTold, IsLonger}
 use Rattle.route_types.specs.Route.{RouteParts}
-use Rattle.route_types.specs.RouteText.{SpellsRoute}
-use Rattle.rpl_reader.specs.Written.{is_new_name}
-use Rattle.policy_program.specs.Command.{Request, Translate, Judge}
-use Rattle.policy_program.specs.Checked.{IsSound}
-use Rattle.policy_program.specs.Translation.{IsTranslation}
-use Rattle.policy_program.specs.Translated.{Answer, Translates}
-use Rattle.policy_program.specs.Judgement.{IsJudgement, Judges}
+use Rattle.route_types.specs.RouteText.{SpellsRoute, IsFirstBadLine}
+use Rattle.ios_reader.specs.Profile.{all_forms}
+use Rattle.policy_program.specs.FirstForms.{is_first_form}
+use Rattle.policy_program.specs.Source.{Taken, Dialect, Ios, Rpl, Source, Policy, Load, Loaded, Broken, NoPolicy, Outside, Loads, ios_source}
+use Rattle.policy_program.specs.Lines.{place_in}
+use Rattle.policy_program.specs.Answer.{Told, CannotRead, IsTooLong, IsBroken, HasNoPolicy, IsOutside, SpellsNoRoute, Answer, Result, Refusal}
+use Rattle.policy_program.specs.Results.{IsTranslation, IsJudgement}
+use Rattle.policy_program.specs.Words.{Request, Translate, Judge}
+use Rattle.policy_program.specs.declared.status.Status.{Status}
+use Rattle.policy_program.specs.declared.status.Status.TheVariants.{Done}
 
--- the policy's name in its source
-abbrev pub policy_of : Request → List ℕ
-policy_of (Translate t) = t.policy
-policy_of (Judge j) = j.policy
+-- a file of a request: one with a policy in a language under these names, or one with a route
+pub data Input : Type 0 where
+  PolicyFile : List ℕ → Dialect → List (List ℕ) → Input
+  RouteFile : List ℕ → Input
 
--- the file of the policy, which is fetched first
-abbrev pub file_of : Request → List ℕ
-file_of (Translate t) = t.file
-file_of (Judge j) = j.file
+-- the files of a request, in the order in which they are fetched and then looked at
+abbrev pub inputs_of : Request → List Input
+inputs_of (Translate t) = PolicyFile t.file Ios (t.policy ∷ []) ∷ []
+inputs_of (Judge j) = PolicyFile j.file Ios (j.policy ∷ []) ∷ RouteFile j.route_file ∷ []
 
--- the file that is fetched second: for judge that of the route
-abbrev pub second_file : Request → Option (List ℕ)
-second_file (Translate t) = None
-second_file (Judge j) = Some j.route_file
+-- the text is the result of a request on the texts of its files, with this status
+abbrev pub IsResult : Request → List (List ℕ) → Status → List ℕ → Type 0
+IsResult (Translate t) (source ∷ []) status text = (status ≡ Done) × IsTranslation (ios_source t.policy source) Rpl t.name text
+IsResult (Judge j) (source ∷ route ∷ []) status text = (status ≡ Done) × IsJudgement (ios_source j.policy source) route text
+IsResult q texts status text = ⊥
 
 -- the forms of statements that the verb takes
-abbrev pub taken_by : Request → Forms
-taken_by (Translate t) = First
-taken_by (Judge j) = All
+abbrev pub taken_by : Request → Taken
+taken_by (Translate t) = is_first_form
+taken_by (Judge j) = all_forms
 
--- the text is the right result on these texts, that of the policy's file and that of the second file
-abbrev pub IsResult : Request → List ℕ → List ℕ → List ℕ → Type 0
-IsResult (Translate t) source second text = IsTranslation source t.policy text t.name
-IsResult (Judge j) source second text = IsJudgement source j.policy second text
+-- ---- what is read of a file
 
--- there is a result on these texts: the policy has no fault, and for judge the second text spells a route
-abbrev pub Serves : Request → List ℕ → Type 0
-Serves (Translate t) second = Unit {0}
-Serves (Judge j) second = (r : RouteParts) × SpellsRoute second r
+abbrev pub file_in : Input → List ℕ
+file_in (PolicyFile file dialect names) = file
+file_in (RouteFile file) = file
 
--- there is a result: the policy has no fault, and the second text serves
-pub record HasResult (q : Request) (source second : List ℕ) : Type 0 where
-  pub sound : IsSound (taken_by q) source (policy_of q)
-  pub serves : Serves q second
+-- what a load tells of its file, where it is no policy
+abbrev pub told_by : Source → Load → Option Told
+told_by source (Loaded policy) = None
+told_by source (Broken span kind) = Some (IsBroken (place_in source.text span.start) kind)
+told_by source (NoPolicy place) = Some (HasNoPolicy (unwrap_or (slice_get source.names place) []))
+told_by source (Outside span cause) = Some (IsOutside (place_in source.text span.start) cause)
 
--- a new name in the request is of its form
-abbrev pub IsWellNamed : Request → Type 0
-IsWellNamed (Translate t) = is_new_name t.name ≡ true
-IsWellNamed (Judge j) = Unit {0}
+-- the text of the file is as it has to be: it loads, or it spells a route
+abbrev pub IsSound : Taken → Input → List ℕ → Type 0
+IsSound taken (PolicyFile file dialect names) text = (p : Policy) × Loads taken (record { dialect = dialect; names = names; text = text }) (Loaded p)
+IsSound taken (RouteFile file) text = (r : RouteParts) × SpellsRoute text r
 
--- what the verb answers on these texts
-abbrev pub Answers : Request → List ℕ → List ℕ → Answer → Type 0
-Answers (Translate t) source second answer = Translates source t.policy t.name answer
-Answers (Judge j) source second answer = Judges source j.policy second answer
+-- it is not, and this is what is told
+abbrev pub IsUnsound : Taken → Input → List ℕ → Told → Type 0
+IsUnsound taken (PolicyFile file dialect names) text told =
+    let source : Source = record { dialect = dialect; names = names; text = text } in (load : Load) × Loads taken source load × (told_by source load ≡ Some told)
+IsUnsound taken (RouteFile file) text told = (line : ℕ) × (told ≡ SpellsNoRoute line) × IsFirstBadLine text line
+
+-- the first file that is not as it has to be, those before it being so
+abbrev pub IsFirstUnsound : Taken → List Input → List (List ℕ) → List ℕ → Told → Type 0
+IsFirstUnsound taken (i ∷ is) (t ∷ ts) file told = ((file ≡ file_in i) × IsUnsound taken i t told) ⊎ (IsSound taken i t × IsFirstUnsound taken is ts file told)
+IsFirstUnsound taken is ts file told = ⊥
+
+-- every file is as it has to be
+abbrev pub AreSound : Taken → List Input → List (List ℕ) → Type 0
+AreSound taken [] [] = Unit {0}
+AreSound taken (i ∷ is) (t ∷ ts) = IsSound taken i t × AreSound taken is ts
+AreSound taken is ts = ⊥
+
+-- ---- the right answer
+
+-- on the texts of the files: the refusal of the first that is not as it has to be, or else the result
+abbrev pub RightAnswer : Request → List (List ℕ) → Answer → Type 0
+RightAnswer q texts (Result status text) = IsResult q texts status text
+RightAnswer q texts (Refusal file told) = IsFirstUnsound (taken_by q) (inputs_of q) texts file told
+
+-- the greatest length of a source or a route file, in bytes
+abbrev pub most_bytes : ℕ
+most_bytes = 16777216
+
+-- a text of at most the greatest length stands under the file, where the shelf tells its texts
+pub record IsTextOf (told : Option Texts) (file text : List ℕ) : Type 0 where
+  pub is_told : IsTold told file text
+  pub within : length text ≤ most_bytes
+
+-- none does, where the shelf tells: there is none, or it is longer
+abbrev pub HasNoText : Option Texts → List ℕ → Told → Type 0
+HasNoText None file IsTooLong = Unit {0}
+HasNoText (Some texts) file CannotRead = text_at texts file ≡ None
+HasNoText (Some texts) file IsTooLong = IsLonger texts file most_bytes
+HasNoText told file _ = ⊥
+
+-- these are the texts of the files, one by one
+abbrev pub AreTextsOf : Option Texts → List Input → List (List ℕ) → Type 0
+AreTextsOf told [] [] = Unit {0}
+AreTextsOf told (i ∷ is) (t ∷ ts) = IsTextOf told (file_in i) t × AreTextsOf told is ts
+AreTextsOf told is ts = ⊥
+
+-- the file is fetched at its turn: those before it have a text
+abbrev pub IsAtTurn : Option Texts → List Input → List ℕ → Type 0
+IsAtTurn told [] file = ⊥
+IsAtTurn told (i ∷ is) file = (file ≡ file_in i) ⊎ ((t : List ℕ) × IsTextOf told (file_in i) t × IsAtTurn told is file)
+
+-- the answer is right on the texts of all files
+pub record IsAnswer (told : Option Texts) (q : Request) (answer : Answer) : Type 0 where
+  pub texts : List (List ℕ)
+  pub given : AreTextsOf told (inputs_of q) texts
+  pub right : RightAnswer q texts answer
+
+-- the answer that is due to a request by the texts of a shelf: all files are fetched, and then they are looked at
+abbrev pub IsDue : Option Texts → Request → Answer → Type 0
+IsDue told q (Result status text) = IsAnswer told q (Result status text)
+IsDue told q (Refusal file about) = (IsAtTurn told (inputs_of q) file × HasNoText told file about) ⊎ IsAnswer told q (Refusal file about)
+
+-- every file of the request has a text that is as it has to be
+pub record IsServed (told : Option Texts) (q : Request) : Type 0 where
+  pub texts : List (List ℕ)
+  pub given : AreTextsOf told (inputs_of q) texts
+  pub sound : AreSound (taken_by q) (inputs_of q) texts

@@ -1,37 +1,32 @@
 -- How a request is read from the values that clap's definition gives.
-use Rattle.std.specs.Prelude.{◌≡◌, ℕ, Bool, true, false, List, [], ◌∷◌, Option, Some, None, Result, Ok, Err, option_map, codes, bytes_eq, ⊤}
-use Rattle.clap.specs.Words.{App, Kinds, Row, fault_of, first_of, found_of, matches_of, rows_of}
+use Rattle.std.specs.Prelude.{◌≡◌, ℕ, Bool, true, false, List, [], ◌∷◌, Option, Some, None, Result, Ok, Err, bytes_eq, codes, ⊤}
+use Rattle.clap.specs.Words.{App, Kinds, Row, fault_of, first_of, found_of, is_simple_and_free, matches_of, new_app, rows_of, with_rule}
 use Rattle.clap.specs.declared.parser.matches.ArgMatches.{ArgMatches}
 use Rattle.route_types.specs.Words.{◌>>=◌, when}
-use Rattle.policy_program.specs.ClapCommands.{translate_app, judge_app}
-use Rattle.policy_program.specs.Command.{Request, Translate, Judge, TranslateParts, JudgeParts, is_policy_word, request_view}
-use Rattle.rpl_reader.specs.Written.{is_new_name}
+use Rattle.policy_program.specs.Words.{Verb, Translates, Judges, Slot, slots, option_rule, Request, request_by, app_of_verb, request_view}
 use Rattle.policy_program.specs.declared.command.Request.{Request as Asked}
 use Rattle.policy_program.specs.declared.command.WordsFault.{WordsFault}
 use Rattle.policy_program.specs.declared.command.WordsFault.TheVariants.{Usage, Memory}
 
--- the value of this name, where it is of a form
-abbrev pub formed : (List ℕ → Bool) → List Row → List ℕ → Option (List ℕ)
-formed is_formed rows name = first_of name rows >>= λ word. when (is_formed word) word
+-- the command is one of which clap's definition gives the values and the faults
+unfoldable pub is_plain : App → Bool
+is_plain command = is_simple_and_free command
 
--- what `translate` is asked by its values
-unfoldable pub translate_in : List Row → Option TranslateParts
-translate_in rows = do
-  source ← formed (bytes_eq (codes "ios")) rows (codes "from")
-  target ← formed (bytes_eq (codes "rpl")) rows (codes "to")
-  policy ← formed is_policy_word rows (codes "policy")
-  name ← formed is_new_name rows (codes "as")
-  file ← first_of (codes "file") rows
-  Some (record { policy = policy; name = name; file = file })
+-- a command with its first two options
+abbrev pub with_options : List ℕ → List ℕ → List ℕ → App
+with_options verb first second = with_rule (with_rule (new_app verb) (option_rule first)) (option_rule second)
 
--- what `judge` is asked by its values
-unfoldable pub judge_in : List Row → Option JudgeParts
-judge_in rows = do
-  source ← formed (bytes_eq (codes "ios")) rows (codes "from")
-  policy ← formed is_policy_word rows (codes "policy")
-  file ← first_of (codes "file") rows
-  route_file ← first_of (codes "route-file") rows
-  Some (record { policy = policy; file = file; route_file = route_file })
+-- what is made of the values of a table, each where it is of its form
+abbrev pub made_by : List Row → List Slot → (List (List ℕ) → Option Request) → Option Request
+made_by rows [] make = make []
+made_by rows (s ∷ ss) make = do
+  word ← first_of s.name rows
+  value ← when (s.is_formed word) word
+  made_by rows ss (λ values. make (value ∷ values))
+
+-- what a verb is asked by its values
+unfoldable pub asked_in : Verb → List Row → Option Request
+asked_in verb rows = made_by rows (slots verb) (request_by verb)
 
 -- there is no fault
 abbrev pub has_none : Kinds → Bool
@@ -42,20 +37,16 @@ has_none (k ∷ ks) = false
 unfoldable pub rows_in : App → List (List ℕ) → Option (List Row)
 rows_in command words = when (has_none (fault_of command words)) (matches_of command words)
 
--- what the words ask for behind `translate`
-unfoldable pub translate_asked : List (List ℕ) → Option Request
-translate_asked words = option_map Translate (rows_in translate_app words >>= translate_in)
-
--- what the words ask for behind `judge`
-unfoldable pub judge_asked : List (List ℕ) → Option Request
-judge_asked words = option_map Judge (rows_in judge_app words >>= judge_in)
+-- what the words ask for behind a verb
+unfoldable pub asked : Verb → List (List ℕ) → Option Request
+asked verb words = rows_in (app_of_verb verb) words >>= asked_in verb
 
 -- what the words ask for, by their verb
 unfoldable pub request_in : List (List ℕ) → Option Request
 request_in [] = None
-request_in (verb ∷ others) = elim (bytes_eq verb (codes "translate")) [
-  | true ↦ translate_asked (verb ∷ others)
-  | false ↦ elim (bytes_eq verb (codes "judge")) [ true ↦ judge_asked (verb ∷ others) | false ↦ None ]
+request_in (first ∷ others) = elim (bytes_eq first (codes "translate")) [
+  | true ↦ asked Translates (first ∷ others)
+  | false ↦ elim (bytes_eq first (codes "judge")) [ true ↦ asked Judges (first ∷ others) | false ↦ None ]
 ]
 
 -- an answer is this, or want of memory

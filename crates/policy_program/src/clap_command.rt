@@ -3,8 +3,8 @@ ghost use Rattle.std.specs.Prelude.{◌≡◌, false, true, IfOk, map, option_ma
 ghost use Rattle.std.specs.String.{string_bytes};
 ghost use Rattle.clap.specs.Words.{app_of, first_of, found_of, rows_of, rule_of};
 ghost use Rattle.clap.specs.declared.error.kind.ErrorKind.TheVariants.{OutOfMemory};
-ghost use Rattle.policy_program.specs.ClapCommands.{file_rule, is_plain, judge_app, option_rule, source_app, translate_app};
-ghost use Rattle.policy_program.specs.Spelled.{ParsesBy, rows_in};
+ghost use Rattle.policy_program.specs.Words.{Judges, Translates, app_of_verb, file_rule, option_rule};
+ghost use Rattle.policy_program.specs.Spelled.{ParsesBy, is_plain, rows_in, with_options};
 
 use crate::command::WordsFault;
 use clap::error::ErrorKind;
@@ -27,32 +27,37 @@ fn required_file<'a>(alloc: Global, name: &'a str) -> Arg<'a>
     Arg::new(alloc, name).required(true)
 }
 
-/// The part of a command that names the source.
-fn source_command<'a>(alloc: Global, verb: &'a str) -> Result<Command<'a>, AllocError>
-    ensures { IfOk result (λ c. app_of c ≡ source_app verb.entry.now) }
+/// A command with its first two options.
+fn with_options<'a>(
+    alloc: Global,
+    verb: &'a str,
+    first: &'a str,
+    second: &'a str,
+) -> Result<Command<'a>, AllocError>
+    ensures { IfOk result (λ c. app_of c ≡ with_options verb.entry.now first.entry.now second.entry.now) }
 {
     Command::new(alloc, verb)
-        .arg(required_option(alloc, "from"))?
-        .arg(required_option(alloc, "policy"))
+        .arg(required_option(alloc, first))?
+        .arg(required_option(alloc, second))
 }
 
 /// The command of `translate`.
-#[tactic(auto, unfolding(crate::specs::ClapCommands::translate_app))]
+#[tactic(auto, unfolding(crate::specs::Words::app_of_verb))]
 pub fn translate_command<'a>(alloc: Global) -> Result<Command<'a>, AllocError>
-    ensures { IfOk result (λ c. app_of c ≡ translate_app) }
+    ensures { IfOk result (λ c. app_of c ≡ app_of_verb Translates) }
 {
-    source_command(alloc, "translate")?
-        .arg(required_option(alloc, "to"))?
+    with_options(alloc, "translate", "from", "to")?
+        .arg(required_option(alloc, "policy"))?
         .arg(required_option(alloc, "as"))?
         .arg(required_file(alloc, "file"))
 }
 
 /// The command of `judge`.
-#[tactic(auto, unfolding(crate::specs::ClapCommands::judge_app))]
+#[tactic(auto, unfolding(crate::specs::Words::app_of_verb))]
 pub fn judge_command<'a>(alloc: Global) -> Result<Command<'a>, AllocError>
-    ensures { IfOk result (λ c. app_of c ≡ judge_app) }
+    ensures { IfOk result (λ c. app_of c ≡ app_of_verb Judges) }
 {
-    source_command(alloc, "judge")?
+    with_options(alloc, "judge", "from", "policy")?
         .arg(required_file(alloc, "file"))?
         .arg(required_file(alloc, "route-file"))
 }

@@ -2,9 +2,9 @@
 ghost use Rattle.std.specs.Prelude.{◌≡◌, IfOk, IsErrOf, map, option_map};
 ghost use Rattle.std.specs.String.{string_bytes};
 ghost use Rattle.clap.specs.Words.{found_of, rows_of};
-ghost use Rattle.policy_program.specs.Command.{Accepts, IsRefused, judge_view, request_view, translate_view};
+ghost use Rattle.policy_program.specs.Words.{Accepts, IsRefused, Judge, Judges, Translate, Translates, judge_view, request_view, translate_view};
 ghost use Rattle.policy_program.specs.declared.command.WordsFault.{WordsFault};
-ghost use Rattle.policy_program.specs.Spelled.{AnswersBy, judge_asked, judge_in, request_in, translate_asked, translate_in};
+ghost use Rattle.policy_program.specs.Spelled.{AnswersBy, asked, asked_in, request_in};
 
 use crate::clap_command::{judge_command, parsed, translate_command, value};
 use crate::word_forms::{is_new_name, is_policy_word};
@@ -91,9 +91,9 @@ fn read_verb(alloc: Global, words: &[String]) -> Result<Request<'_>, WordsFault>
 }
 
 /// The request of `translate`.
-#[tactic(auto, using(crate::proofs::ClapParse::translate_simple), unfolding(crate::specs::Spelled::translate_asked))]
+#[tactic(auto, using(crate::proofs::ClapParse::translate_simple), unfolding(crate::specs::Spelled::asked))]
 fn read_translate(alloc: Global, words: &[String]) -> Result<Request<'_>, WordsFault>
-    ensures { AnswersBy (translate_asked (map string_bytes words.now)) result }
+    ensures { AnswersBy (asked Translates (map string_bytes words.now)) result }
 {
     let command = translate_command(alloc)?;
     let matches = parsed(command, words)?;
@@ -104,9 +104,9 @@ fn read_translate(alloc: Global, words: &[String]) -> Result<Request<'_>, WordsF
 }
 
 /// The request of `judge`.
-#[tactic(auto, using(crate::proofs::ClapParse::judge_simple), unfolding(crate::specs::Spelled::judge_asked))]
+#[tactic(auto, using(crate::proofs::ClapParse::judge_simple), unfolding(crate::specs::Spelled::asked))]
 fn read_judge(alloc: Global, words: &[String]) -> Result<Request<'_>, WordsFault>
-    ensures { AnswersBy (judge_asked (map string_bytes words.now)) result }
+    ensures { AnswersBy (asked Judges (map string_bytes words.now)) result }
 {
     let command = judge_command(alloc)?;
     let matches = parsed(command, words)?;
@@ -117,9 +117,9 @@ fn read_judge(alloc: Global, words: &[String]) -> Result<Request<'_>, WordsFault
 }
 
 /// What `translate` is asked by its values.
-#[tactic(auto, unfolding(crate::specs::Spelled::translate_in))]
+#[tactic(auto, unfolding(crate::specs::Spelled::asked_in))]
 fn translate_words<'a>(matches: &ArgMatches<'a>) -> Option<TranslateWords<'a>>
-    ensures { option_map translate_view result ≡ translate_in (rows_of (found_of matches.now)) }
+    ensures { option_map (λ t. Translate (translate_view t)) result ≡ asked_in Translates (rows_of (found_of matches.now)) }
 {
     let source = value(matches, "from")?;
     if source != "ios" {
@@ -142,9 +142,9 @@ fn translate_words<'a>(matches: &ArgMatches<'a>) -> Option<TranslateWords<'a>>
 }
 
 /// What `judge` is asked by its values.
-#[tactic(auto, unfolding(crate::specs::Spelled::judge_in))]
+#[tactic(auto, unfolding(crate::specs::Spelled::asked_in))]
 fn judge_words<'a>(matches: &ArgMatches<'a>) -> Option<JudgeWords<'a>>
-    ensures { option_map judge_view result ≡ judge_in (rows_of (found_of matches.now)) }
+    ensures { option_map (λ j. Judge (judge_view j)) result ≡ asked_in Judges (rows_of (found_of matches.now)) }
 {
     let source = value(matches, "from")?;
     if source != "ios" {

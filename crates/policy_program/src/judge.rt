@@ -1,64 +1,73 @@
 // What one policy of an IOS text makes of a route.
-ghost use Rattle.std.specs.Prelude.{◌≡◌, IfOk, MatchResult};
-ghost use Rattle.policy_program.specs.Judgement.{outcome_text, Judges};
-ghost use Rattle.policy_program.specs.Judged.{JudgesRoute, TellsOutcome};
+ghost use Rattle.std.specs.Prelude.{◌≡◌, [], ◌∷◌, IfOk};
+ghost use Rattle.ios_reader.specs.Profile.{all_forms};
+ghost use Rattle.policy_program.specs.Results.{outcome_text};
+ghost use Rattle.policy_program.specs.Words.{Judge, judge_view};
+ghost use Rattle.policy_program.specs.Layers.{AnswersOn, IsLoaded, TellsOutcome};
 
-use crate::checked::checked_policy;
-use crate::refusal::Refusal;
+use crate::command::JudgeWords;
+use crate::load::{load_ios, refused_load};
+use crate::refusal::{Fault, Refusal, Told};
+use crate::request::Output;
+use crate::status::Status;
 use ios_meaning::judge_ios;
-use ios_reader::{CheckedIos, Forms};
+use ios_reader::{AllForms, CheckedIos};
 use route_types::{Memory, Outcome, Route, RouteFault, print_route, read_route};
 use std::alloc::Global;
 
-/// The text of what the route-map `policy` of the IOS text `source` makes of the route that
-/// `route_text` spells: `reject`, or `accept` and the eight lines of the changed route.
+/// The answer of `judge` on the text of its policy's file and that of its route file.
 ///
-/// `NoPolicy` where no route-map stands under the name, `Outside` with the first fault of the profile
-/// where the policy has one, then `Route` with the first line that is not the form where the text spells
-/// no route, `Memory` for want of memory.
-#[tactic(auto, using(crate::proofs::Judged::judges))]
-pub fn judge(
+/// Its result is the text of what the route-map makes of the route: `reject`, or `accept` and the eight lines of
+/// the changed route.
+pub(crate) fn judge_texts<'a>(
     alloc: Global,
+    asked: &JudgeWords<'a>,
     source: &[u8],
-    policy: &[u8],
     route_text: &[u8],
-) -> Result<Vec<u8>, Refusal>
-    ensures { Judges source.now policy.now route_text.now result }
+) -> Result<Output, Fault<'a>>
+    ensures { AnswersOn (Judge (judge_view asked.now)) (source.now ∷ route_text.now ∷ []) result }
 {
-    match checked_policy(alloc, source, policy, Forms::All) {
-        Ok(checked) => judge_checked(alloc, &checked, route_text),
-        Err(refusal) => Err(refusal),
+    match load_ios::<AllForms>(alloc, source, asked.policy.as_bytes()) {
+        Ok(checked) => judge_checked(alloc, asked, &checked, source, route_text),
+        Err(fault) => Err(refused_load(asked.file, asked.policy, source, fault)),
     }
 }
 
-/// The text of what a checked policy makes of the route that the text spells.
-fn judge_checked(alloc: Global, checked: &CheckedIos, route_text: &[u8]) -> Result<Vec<u8>, Refusal>
-    ensures { JudgesRoute checked.now route_text.now result }
+/// The answer of `judge` where its policy is loaded from the source.
+#[tactic(auto, using(crate::proofs::Judged::no_route, crate::proofs::Judged::judged))]
+fn judge_checked<'a>(
+    alloc: Global,
+    asked: &JudgeWords<'a>,
+    checked: &CheckedIos,
+    source: &[u8],
+    route_text: &[u8],
+) -> Result<Output, Fault<'a>>
+    requires { IsLoaded all_forms source.now asked.now.policy.now checked.now }
+    ensures { AnswersOn (Judge (judge_view asked.now)) (source.now ∷ route_text.now ∷ []) result }
 {
     match read_route(alloc, route_text) {
-        Ok(route) => judge_route(alloc, checked, &route),
-        Err(RouteFault::Line { number }) => Err(Refusal::Route { line: number }),
-        Err(RouteFault::Memory) => Err(Refusal::Memory),
+        Ok(route) => match judge_route(alloc, checked, &route) {
+            Ok(text) => Ok(Output {
+                status: Status::Done,
+                text,
+            }),
+            Err(_) => Err(Fault::Memory),
+        },
+        Err(RouteFault::Line { number }) => Err(Fault::Refused(Refusal {
+            file: asked.route_file,
+            told: Told::SpellsNoRoute { line: number },
+        })),
+        Err(RouteFault::Memory) => Err(Fault::Memory),
     }
 }
 
 /// The text of what a checked policy makes of a route.
-fn judge_route(alloc: Global, checked: &CheckedIos, route: &Route) -> Result<Vec<u8>, Refusal>
-    ensures { MatchResult result (λ text. TellsOutcome checked.now route.now text.items) (λ refusal. refusal ≡ Refusal.Memory) }
+fn judge_route(alloc: Global, checked: &CheckedIos, route: &Route) -> Result<Vec<u8>, Memory>
+    ensures { IfOk result (λ text. TellsOutcome checked.now route.now text.items) }
 {
     match judge_ios(alloc, checked, route) {
-        Ok(outcome) => write_outcome(alloc, &outcome),
-        Err(_) => Err(Refusal::Memory),
-    }
-}
-
-/// The text of an outcome, or want of memory.
-fn write_outcome(alloc: Global, outcome: &Outcome) -> Result<Vec<u8>, Refusal>
-    ensures { MatchResult result (λ text. text.items ≡ outcome_text outcome.now) (λ refusal. refusal ≡ Refusal.Memory) }
-{
-    match outcome_text(alloc, outcome) {
-        Ok(text) => Ok(text),
-        Err(_) => Err(Refusal::Memory),
+        Ok(outcome) => outcome_text(alloc, &outcome),
+        Err(fault) => Err(fault),
     }
 }
 

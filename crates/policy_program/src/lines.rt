@@ -1,13 +1,14 @@
 // The one line that a refusal puts on `err`, in pieces that take no memory.
-ghost use Rattle.std.specs.Prelude.{◌≡◌, map};
+ghost use Rattle.std.specs.Prelude.{◌≡◌, [], ◌∷◌, codes, map};
 ghost use Rattle.policy_outside.specs.Sink.{joined};
+ghost use Rattle.policy_program.specs.Lines.{cause_name};
+ghost use Rattle.policy_program.specs.Answer.{CannotRead, HasNoPolicy, IsOutside, IsTooLong, SpellsNoRoute, line_told, memory_line, unwritten_line, usage_line};
 ghost use Rattle.policy_program.specs.Ends.{ReceivedLine};
-ghost use Rattle.policy_program.specs.Lines.{cause_name, usage_line, no_policy_line, fault_line, outside_line, unread_line, too_long_line, unwritten_line, memory_line, not_route_line};
 
-use crate::place::place_of;
+use crate::place::Place;
 use itoa::Buffer;
 use policy_outside::{Sink, put_line};
-use policy_text::{Cause, Span};
+use policy_text::Cause;
 
 /// The name of a cause as it is printed: lower case, with dashes between its words.
 pub fn cause_name(cause: Cause) -> &'static str
@@ -53,25 +54,19 @@ pub(crate) fn tell_usage<E: Sink>(err: &mut E)
 }
 
 /// Tells that no policy stands under the name.
-pub(crate) fn tell_no_policy<E: Sink>(err: &mut E, file: &str, policy: &[u8])
-    ensures { ReceivedLine (record { before = E.seen err.old; now = E.seen err.new })
-        (no_policy_line file.now policy.now) }
+pub(crate) fn tell_no_policy<E: Sink>(err: &mut E, file: &str, policy: &str)
+    ensures { ReceivedLine (record { before = E.seen err.old; now = E.seen err.new }) (line_told file.now (HasNoPolicy policy.now)) }
 {
-    tell(err, &[file.as_bytes(), b": no policy ", policy, b"\n"]);
+    tell(
+        err,
+        &[file.as_bytes(), b": no policy ", policy.as_bytes(), b"\n"],
+    );
 }
 
-/// Tells the fault that stands at the start of `span` in the text of the file.
-pub(crate) fn tell_outside<E: Sink>(
-    err: &mut E,
-    file: &str,
-    source: &[u8],
-    span: Span,
-    cause: Cause,
-)
-    ensures { ReceivedLine (record { before = E.seen err.old; now = E.seen err.new })
-        (outside_line file.now source.now span cause) }
+/// Tells the first fault of a policy that lies outside the profile, at its place in the file.
+pub(crate) fn tell_outside<E: Sink>(err: &mut E, file: &str, place: Place, cause: Cause)
+    ensures { ReceivedLine (record { before = E.seen err.old; now = E.seen err.new }) (line_told file.now (IsOutside place cause)) }
 {
-    let place = place_of(source, span.start);
     let mut line = Buffer::new();
     let mut column = Buffer::new();
     let line = line.format(place.line);
@@ -88,7 +83,7 @@ pub(crate) fn tell_outside<E: Sink>(
 /// Tells a fault whose place and cause are printed.
 fn tell_fault<E: Sink>(err: &mut E, file: &[u8], line: &[u8], column: &[u8], cause: &[u8])
     ensures { ReceivedLine (record { before = E.seen err.old; now = E.seen err.new })
-        (fault_line file.now line.now column.now cause.now) }
+        (joined (file.now ∷ codes ":" ∷ line.now ∷ codes ":" ∷ column.now ∷ codes ": outside: " ∷ cause.now ∷ codes "\n" ∷ [])) }
 {
     tell(
         err,
@@ -98,16 +93,14 @@ fn tell_fault<E: Sink>(err: &mut E, file: &[u8], line: &[u8], column: &[u8], cau
 
 /// Tells that the file could not be read.
 pub(crate) fn tell_unread<E: Sink>(err: &mut E, file: &str)
-    ensures { ReceivedLine (record { before = E.seen err.old; now = E.seen err.new })
-        (unread_line file.now) }
+    ensures { ReceivedLine (record { before = E.seen err.old; now = E.seen err.new }) (line_told file.now CannotRead) }
 {
     tell(err, &[file.as_bytes(), b": cannot be read\n"]);
 }
 
 /// Tells that the file has too many bytes.
 pub(crate) fn tell_too_long<E: Sink>(err: &mut E, file: &str)
-    ensures { ReceivedLine (record { before = E.seen err.old; now = E.seen err.new })
-        (too_long_line file.now) }
+    ensures { ReceivedLine (record { before = E.seen err.old; now = E.seen err.new }) (line_told file.now IsTooLong) }
 {
     tell(err, &[file.as_bytes(), b": longer than 16777216 bytes\n"]);
 }
@@ -129,8 +122,7 @@ pub fn tell_memory<E: Sink>(err: &mut E)
 
 /// Tells that the file spells no route, by the number of its first line that is not the form.
 pub(crate) fn tell_not_route<E: Sink>(err: &mut E, file: &str, number: u64)
-    ensures { ReceivedLine (record { before = E.seen err.old; now = E.seen err.new })
-        (not_route_line file.now number) }
+    ensures { ReceivedLine (record { before = E.seen err.old; now = E.seen err.new }) (line_told file.now (SpellsNoRoute number)) }
 {
     let mut digits = Buffer::new();
     let digits = digits.format(number);

@@ -1,6 +1,6 @@
 // Where a byte of a text stands.
 ghost use Rattle.std.specs.Prelude.{◌≡◌, ◌+◌, ◌==◌, count_by};
-ghost use Rattle.policy_program.specs.Lines.{line_of, column_of, column_behind};
+ghost use Rattle.policy_program.specs.Lines.{place_in, column_behind};
 
 /// A place in a text, as an editor counts it.
 #[derive(Clone, Copy, Debug, PartialEq, Eq)]
@@ -14,8 +14,7 @@ pub struct Place {
 /// The place of the byte at `start`, counted from 0; behind the text's end it is the place of the end.
 #[tactic(auto, using(std::proofs::lemmas::List::take_min))]
 pub fn place_of(text: &[u8], start: u64) -> Place
-    ensures line { result.line ≡ line_of text.now start }
-    ensures column { result.column ≡ column_of text.now start }
+    ensures { result ≡ place_in text.now start }
 {
     let end = start.min(text.len() as u64) as usize;
     place_behind(&text[..end])

@@ -32,7 +32,7 @@ pub enum Status {
 }
 
 impl Status {
-    ghost use Rattle.policy_program.specs.Status.{number_of};
+    ghost use Rattle.policy_program.specs.Answer.{number_of};
 
     /// The exit status of the process, 0 to 10.
     pub fn number(&self) -> u8

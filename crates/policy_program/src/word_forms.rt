@@ -2,7 +2,7 @@
 ghost use Rattle.std.specs.Prelude.{◌≡◌};
 ghost use Rattle.std.specs.List.{list_all};
 ghost use Rattle.rpl_reader.specs.Written.{is_letter, is_name_byte, is_new_name};
-ghost use Rattle.policy_program.specs.Command.{is_policy_byte, is_policy_word};
+ghost use Rattle.policy_program.specs.Words.{is_policy_byte, is_policy_word};
 
 fn is_policy_byte(byte: u8) -> bool
     ensures { result ≡ is_policy_byte byte }

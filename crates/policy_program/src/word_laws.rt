@@ -1,7 +1,6 @@
 // The laws of the words; their clauses are all that they do.
 ghost use Rattle.std.specs.Prelude.{◌≡◌, ℕ, List};
-ghost use Rattle.policy_program.specs.Causes.{UsageCause};
-ghost use Rattle.policy_program.specs.Command.{Request, Accepts, IsRefused};
+ghost use Rattle.policy_program.specs.Words.{Request, Accepts, IsRefused, UsageCause};
 
 /// Words make at most one request.
 #[tactic(auto, using(crate::proofs::Words::accepted_once))]
@@ -11,7 +10,6 @@ pub fn words_ask_once()
 
 /// Words are refused exactly where one of three causes stands: the verb is unknown, clap's definition
 /// finds a fault, or a value is out of its form.
-#[tactic(auto, using(crate::proofs::Causes::refuses))]
 pub fn refused_by_a_cause()
     // Refused words have a cause.
     ensures causes { (words : List (List ℕ)) → IsRefused words → UsageCause words }

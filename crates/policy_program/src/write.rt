@@ -1,9 +1,9 @@
 // Writing a policy in RPL: its plan, and the text of that.
 ghost use Rattle.std.specs.Prelude.{◌≡◌, ℕ, List, None, IfOk, true};
 ghost use Rattle.std.specs.List.{AllByRecursion};
-ghost use Rattle.ios_reader.specs.declared.forms.Forms.TheVariants.{First};
 ghost use Rattle.ios_reader.specs.Profile.{first_fault_within};
 ghost use Rattle.rpl_reader.specs.Written.{is_new_name, IsPlainRange};
+ghost use Rattle.policy_program.specs.FirstForms.{is_first_form};
 ghost use Rattle.policy_program.specs.Plan.{HasPlainForm, ranges_at, entry_views};
 ghost use Rattle.policy_program.specs.Planned.{HavePreferences, IsTextOf};
 ghost use Rattle.policy_program.specs.Written.{Writes};
@@ -45,7 +45,7 @@ pub fn write_policy(
     policy: &[u8],
     name: &[u8],
 ) -> Result<Vec<u8>, Memory>
-    requires taken { first_fault_within First policy.now items.now ≡ None }
+    requires taken { first_fault_within is_first_form policy.now items.now ≡ None }
     requires plain { AllByRecursion HasPlainForm items.now }
     requires named { is_new_name name.now ≡ true }
     ensures { IfOk result (λ text. Writes items.now policy.now text.items name.now) }

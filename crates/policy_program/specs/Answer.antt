@@ -1,0 +1,78 @@
+-- The answers to a request, each with its status and its line on `err`: a status is one row here.
+use Rattle.std.specs.Prelude.{◌≡◌, ℕ, List, [], ◌∷◌, codes, decimal}
+use Rattle.policy_outside.specs.Sink.{joined}
+use Rattle.policy_text.specs.declared.fault.Cause.{Cause}
+use Rattle.policy_program.specs.Lines.{cause_name}
+use Rattle.policy_program.specs.declared.place.Place.{Place}
+use Rattle.policy_program.specs.declared.status.Status.{Status}
+use Rattle.policy_program.specs.declared.status.Status.TheVariants.{Done, Same, Differ, Usage, Broken, NoPolicy, Outside, Inexpressible, FetchFailed, TooLong, WriteFailed, Memory, RouteRefused}
+
+-- the number that the process ends with
+abbrev pub number_of : Status → ℕ
+number_of Done = 0
+number_of Same = 0
+number_of Differ = 1
+number_of Usage = 2
+number_of Broken = 3
+number_of NoPolicy = 4
+number_of Outside = 4
+number_of Inexpressible = 5
+number_of FetchFailed = 6
+number_of TooLong = 7
+number_of WriteFailed = 8
+number_of Memory = 9
+number_of RouteRefused = 10
+
+-- what a refusal tells of a file
+pub data Told : Type 0 where
+  CannotRead : Told
+  IsTooLong : Told
+  -- its statements spell no tree: the place and the name of the kind
+  IsBroken : Place → List ℕ → Told
+  -- it has no policy of this name
+  HasNoPolicy : List ℕ → Told
+  IsOutside : Place → Cause → Told
+  -- it spells no route; the number of its first line that is not the form
+  SpellsNoRoute : ℕ → Told
+
+-- a result with its status and its text, or a refusal with its file and what it tells of it
+pub data Answer : Type 0 where
+  Result : Status → List ℕ → Answer
+  Refusal : List ℕ → Told → Answer
+
+-- the status of a refusal
+abbrev pub status_told : Told → Status
+status_told CannotRead = FetchFailed
+status_told IsTooLong = TooLong
+status_told (IsBroken place kind) = Broken
+status_told (HasNoPolicy policy) = NoPolicy
+status_told (IsOutside place cause) = Outside
+status_told (SpellsNoRoute line) = RouteRefused
+
+-- the line of a fault at a place of the file
+abbrev pub place_line : List ℕ → Place → List ℕ → List ℕ → List ℕ
+place_line file place sort name = joined (file ∷ codes ":" ∷ decimal place.line ∷ codes ":" ∷ decimal place.column ∷ sort ∷ name ∷ codes "\n" ∷ [])
+
+-- the line of a refusal
+abbrev pub line_told : List ℕ → Told → List ℕ
+line_told file CannotRead = joined (file ∷ codes ": cannot be read\n" ∷ [])
+line_told file IsTooLong = joined (file ∷ codes ": longer than 16777216 bytes\n" ∷ [])
+line_told file (IsBroken place kind) = place_line file place (codes ": broken: ") kind
+line_told file (HasNoPolicy policy) = joined (file ∷ codes ": no policy " ∷ policy ∷ codes "\n" ∷ [])
+line_told file (IsOutside place cause) = place_line file place (codes ": outside: ") (cause_name cause)
+line_told file (SpellsNoRoute line) = joined (file ∷ codes ":" ∷ decimal line ∷ codes ": not a route\n" ∷ [])
+
+-- the status of an answer
+abbrev pub status_of : Answer → Status
+status_of (Result status text) = status
+status_of (Refusal file told) = status_told told
+
+-- the lines that tell of no file: words that ask for nothing, output that is not taken, and want of memory
+abbrev pub usage_line : List ℕ
+usage_line = codes "usage: translate, judge, compare or sample\n"
+
+abbrev pub unwritten_line : List ℕ
+unwritten_line = codes "output cannot be written\n"
+
+abbrev pub memory_line : List ℕ
+memory_line = codes "out of memory\n"

@@ -1,0 +1,39 @@
+-- The right result of each verb.
+use Rattle.std.specs.Prelude.{◌≡◌, ℕ, List, [], ◌∷◌, ◌++◌, codes}
+use Rattle.route_types.specs.Route.{RouteParts, InRange}
+use Rattle.route_types.specs.RouteText.{SpellsRoute, route_text}
+use Rattle.route_types.specs.declared.route.Outcome.{Outcome}
+use Rattle.route_types.specs.declared.route.Outcome.TheVariants.{Reject, Accept}
+use Rattle.ios_reader.specs.Profile.{all_forms}
+use Rattle.rpl_reader.specs.Own.{TouchesItsOwn}
+use Rattle.policy_program.specs.FirstForms.{is_first_form}
+use Rattle.policy_program.specs.Source.{Dialect, Ios, Rpl, Source, Policy, Loaded, Loads, meaning}
+
+-- the text touches nothing of others, by its language: each of its statements lies in a block, and each block is of the
+-- name or stands under it with `-` and more behind it; no text is written in IOS yet
+abbrev pub IsOwn : Dialect → List ℕ → List ℕ → Type 0
+IsOwn Ios name text = ⊥
+IsOwn Rpl name text = TouchesItsOwn name text
+
+-- The text is a right translation of a source into a language, under a new name: the source loads as a policy, the
+-- text loads under the name, for every route in range both policies make the same of it, and it touches nothing of others.
+pub record IsTranslation (source : Source) (to : Dialect) (name text : List ℕ) : Type 0 where
+  pub policy : Policy
+  pub loads : Loads is_first_form source (Loaded policy)
+  pub written : Policy
+  pub reads : Loads all_forms (record { dialect = to; names = name ∷ []; text = text }) (Loaded written)
+  pub same : (r : RouteParts) → InRange r → meaning written r ≡ meaning policy r
+  pub own : IsOwn to name text
+
+-- the text of an outcome: `reject`, or `accept` and the eight lines of the route
+abbrev pub outcome_text : Outcome → List ℕ
+outcome_text Reject = codes "reject\n"
+outcome_text (Accept r) = codes "accept\n" ++ route_text r
+
+-- the text says what the policy of the source makes of the route that the route file spells
+pub record IsJudgement (source : Source) (route_file text : List ℕ) : Type 0 where
+  pub policy : Policy
+  pub loads : Loads all_forms source (Loaded policy)
+  pub route : RouteParts
+  pub spelled : SpellsRoute route_file route
+  pub is : text ≡ outcome_text (meaning policy route)
