@@ -148,7 +148,11 @@ fn match_line_in(alloc: Global, words: &[Word]) -> Result<Option<MapLine>, Memor
     if let Some((lists, exact)) = community_match(alloc, words)? {
         return Ok(Some(MapLine::MatchCommunity(CommunityMatch { lists, exact })));
     }
-    if let Some(lists) = some_behind::<Row<u8>, PathNumber>(alloc, words, &[b"match", b"as-path"])? {
+    if let Some(lists) = some_behind::<Row<u8>, PathNumber>(
+        alloc,
+        words,
+        &[b"match", b"as-path"],
+    )? {
         return Ok(Some(MapLine::MatchPath(PathMatch { lists })));
     }
     match some_behind::<u32, Number32>(alloc, words, &[b"match", b"metric"])? {

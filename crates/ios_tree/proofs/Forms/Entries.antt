@@ -154,10 +154,23 @@ entry_found ks name shape Name Shape a b ws x e =
     let p = value_found permit_in list.0.1 permit.0 permit.1 in
     let made = some_is _ h.0 permit.2 in
     let y = bind_found (shape h.0.2) _ x h.2 in
-    subst (SpellEntry ks Name Shape ws) (some_is _ x y.2) (rest.0, after_found ks ws rest.0 rest.1, (n.0, list.0.1, n.1,
-    a.found n.0 h.0.0 (n.2 ∙ ap (λ (i : List ℕ × Bool × List (List ℕ)). Some i.0) made),
-    (p.0, h.0.2, p.1 ∙ ap (λ (i : List ℕ × Bool × List (List ℕ)). p.0 ∷ i.2) made,
-    permit_agrees.found p.0 h.0.1 (p.2 ∙ ap (λ (i : List ℕ × Bool × List (List ℕ)). Some i.1) made), b.found h.0.2 y.0 y.1)))
+    subst (SpellEntry ks Name Shape ws) (some_is _ x y.2) (
+      rest.0,
+      after_found ks ws rest.0 rest.1,
+      (
+        n.0,
+        list.0.1,
+        n.1,
+        a.found n.0 h.0.0 (n.2 ∙ ap (λ (i : List ℕ × Bool × List (List ℕ)). Some i.0) made),
+        (
+          p.0,
+          h.0.2,
+          p.1 ∙ ap (λ (i : List ℕ × Bool × List (List ℕ)). p.0 ∷ i.2) made,
+          permit_agrees.found p.0 h.0.1 (p.2 ∙ ap (λ (i : List ℕ × Bool × List (List ℕ)). Some i.1) made),
+          b.found h.0.2 y.0 y.1,
+        ),
+      ),
+    )
 
 entry_only : {A : Type 0} (ks : List (List ℕ)) (name : List ℕ → Option (List ℕ)) (shape : List (List ℕ) → Option A) (Name : List ℕ → List ℕ → Type 0) (Shape : List (List ℕ) → A → Type 0) → Agrees name Name → Agrees shape Shape
     → (ws : List (List ℕ)) (x : List ℕ × (Bool × A)) → SpellEntry ks Name Shape ws x → entry_in ks name shape ws ≡ Some x
@@ -235,9 +248,10 @@ expanded_none ks name ws e = ap (λ (o : Option (List ℕ × (Bool × RectParts)
 -- a number behind `ip community-list` is neither `standard` nor `expanded`
 numbered_apart : (ws rest : List (List ℕ)) (w : List ℕ) (behind_name : List (List ℕ)) (n : ℕ) → n < 2 ^ 64 → w ≡ decimal n → ws ≡ codes "ip" ∷ codes "community-list" ∷ rest → rest ≡ w ∷ behind_name
     → (standard_in (codes "ip" ∷ codes "community-list" ∷ codes "standard" ∷ []) list_in ws ≡ None) × (expanded_in (codes "ip" ∷ codes "community-list" ∷ codes "expanded" ∷ []) list_in ws ≡ None)
-numbered_apart ws rest w behind_name n small number e f =
-    (standard_none _ _ ws (none_behind 115 (codes "tandard") list_in _ ws rest w behind_name (not_keyword 115 (codes "tandard") w n refl small number) e f),
-    expanded_none _ _ ws (none_behind 101 (codes "xpanded") list_in _ ws rest w behind_name (not_keyword 101 (codes "xpanded") w n refl small number) e f))
+numbered_apart ws rest w behind_name n small number e f = (
+  standard_none _ _ ws (none_behind 115 (codes "tandard") list_in _ ws rest w behind_name (not_keyword 115 (codes "tandard") w n refl small number) e f),
+  expanded_none _ _ ws (none_behind 101 (codes "xpanded") list_in _ ws rest w behind_name (not_keyword 101 (codes "xpanded") w n refl small number) e f),
+)
 
 pub community_list_only : (ws : List (List ℕ)) (list : List ℕ) (permit : Bool) (shape : CommunityShape) → SpellCommunityEntry ws list permit shape → community_list_in ws ≡ Some (CommunityEntry (record { list = list; permit = permit; shape = shape }))
 unfolding community_list_in

@@ -28,8 +28,8 @@ with_option_agrees : {A : Type 0} (key : List ℕ) (f : List ℕ → Option A) (
 unfolding with_option
 with_option_agrees key f P a = record {
   found = λ ws x e.
-  let xs = bind_found (some_each f (option_in key ws).0) _ x e in
-  subst (WithOption key P ws) (some_is _ x xs.2) (record { words = (option_in key ws).0; option = option_found key ws; values = (some_agrees f P a).found (option_in key ws).0 xs.0 xs.1 });
+      let xs = bind_found (some_each f (option_in key ws).0) _ x e in
+      subst (WithOption key P ws) (some_is _ x xs.2) (record { words = (option_in key ws).0; option = option_found key ws; values = (some_agrees f P a).found (option_in key ws).0 xs.0 xs.1 });
   only = λ ws x h. rw (option_spelled key ws h.words x.1 h.values.some h.option) (rw ((some_agrees f P a).only h.words x.0 h.values) refl);
 }
 
@@ -37,8 +37,11 @@ none_found : (ws : List (List ℕ)) (s : CommunitySetting) → none_in ws ≡ So
 none_found ws s e =
     let rest = bind_found (after (codes "none" ∷ []) ws) _ s e in
     let k = when_found (length rest.0 == 0) _ s rest.2 in
-    inl (after_found (codes "none" ∷ []) ws rest.0 rest.1 ∙ ap (λ (vs : List (List ℕ)). codes "none" ∷ vs) (no_bytes rest.0 k.0),
-    ap (λ (t : CommunitySetting). t.communities) (sym k.1), ap (λ (t : CommunitySetting). t.additive) (sym k.1))
+    inl (
+      after_found (codes "none" ∷ []) ws rest.0 rest.1 ∙ ap (λ (vs : List (List ℕ)). codes "none" ∷ vs) (no_bytes rest.0 k.0),
+      ap (λ (t : CommunitySetting). t.communities) (sym k.1),
+      ap (λ (t : CommunitySetting). t.additive) (sym k.1),
+    )
 
 communities_found : (ws : List (List ℕ)) (s : CommunitySetting) → communities_in ws ≡ Some s → SpellCommunities ws s
 unfolding communities_in

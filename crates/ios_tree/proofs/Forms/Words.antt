@@ -33,11 +33,11 @@ pub numbered_list_agrees : (least most : ℕ) → most < 2 ^ 64 → Agrees (numb
 unfolding numbered_list_in
 numbered_list_agrees least most small = record {
   found = λ w l e.
-  let n = bind_found (number_in most w) (λ m. when (nat_le least m) w) l e in
-  let k = when_found (nat_le least n.0) w l n.2 in
-  record { number = n.0; spelled = (number_agrees most small).found w n.0 n.1; some = leb-true least n.0 k.0; names = sym k.1 };
+      let n = bind_found (number_in most w) (λ m. when (nat_le least m) w) l e in
+      let k = when_found (nat_le least n.0) w l n.2 in
+      record { number = n.0; spelled = (number_agrees most small).found w n.0 n.1; some = leb-true least n.0 k.0; names = sym k.1 };
   only = λ w l h.
-  rw ((number_agrees most small).only w h.number h.spelled) (when_true (nat_le least h.number) w (le-leb least h.number h.some) ∙ ap (λ (x : List ℕ). Some x) (sym h.names));
+      rw ((number_agrees most small).only w h.number h.spelled) (when_true (nat_le least h.number) w (le-leb least h.number h.some) ∙ ap (λ (x : List ℕ). Some x) (sym h.names));
 }
 
 -- ---- words of a table

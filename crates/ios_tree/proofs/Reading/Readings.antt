@@ -61,14 +61,21 @@ reads_sort : (entry_open : Bool) (before : List IosItem) (s : Statement) (ss : L
 unfolding numbered_from
 reads_sort entry_open before s ss sort true e b rest =
     let i = numbered_item before (item_of sort s) in
-    inr (sort, i, numbered_from (before ++ i ∷ []) (items_of (opens sort) ss), refl, record {
-      sorted = e;
-      placed = belongs_placed entry_open sort b;
-      written = form_of sort (texts s.words);
-      says = says_form sort (texts s.words);
-      form = refl;
-      span = refl;
-    }, rest (opens sort) (before ++ i ∷ []))
+    inr (
+      sort,
+      i,
+      numbered_from (before ++ i ∷ []) (items_of (opens sort) ss),
+      refl,
+      record {
+        sorted = e;
+        placed = belongs_placed entry_open sort b;
+        written = form_of sort (texts s.words);
+        says = says_form sort (texts s.words);
+        form = refl;
+        span = refl;
+      },
+      rest (opens sort) (before ++ i ∷ []),
+    )
 reads_sort entry_open before s ss sort false e b rest =
     let k = not_placed entry_open sort b in
     inl (inr (e ∙ ap (λ (x : ItemSort). Some x) k.0, k.1), rest false before)
