@@ -12,7 +12,8 @@ use Rattle.text_words.specs.IosCut.{ios_cut}
 use Rattle.text_words.specs.LineCut.{line_cut, lines_from}
 use Rattle.policy_text.specs.Causes.{first_cause, first_fault_from}
 use Rattle.policy_text.specs.Phrases.{after, each}
-use Rattle.ios_tree.specs.Forms.{prefix_list_in, community_list_in, map_header_in, match_prefix_in, match_next_hop_in, match_community_in, match_path_in, match_metric_in, set_local_preference_in, set_metric_in, set_weight_in, set_prepend_in, set_origin_in, set_next_hop_in, set_community_in, delete_communities_in, continue_in, description_in, match_line_in, set_value_in, set_list_in, line_in}
+use Rattle.ios_tree.specs.Forms.{range_or_in, prefix_list_in, standard_in, expanded_in, community_list_in, map_header_in, communities_in, line_of, with_option, match_prefix_in, match_line_in, set_number_in, set_value_in, set_list_in, other_line_in, line_in}
+use Rattle.ios_tree.specs.Names.{list_in, numbered_list_in, permit_in, origin_in, community_word_in}
 use Rattle.ios_tree.specs.Tree.{ios_tree, items_of, form_of, numbered_from}
 use Rattle.ios_reader.specs.Profile.{first_fault_within, first_fault}
 use Rattle.prefix_sets.specs.FirstMatch.{first_match}
@@ -40,17 +41,17 @@ abbrev route : ℕ → ℕ → RouteParts
 route bits length = record { prefix = record { address = record { family = V4; bits = bits }; length = length }; next_hop = Own; path = 65001 ∷ []; origin = Igp; local_preference = 100; med = 0; weight = 0; communities = [] }
 
 sound : first_fault (codes "M") (ios_tree past_deny) ≡ None
-unfolding first_fault_within first_fault_from first_cause ios_tree ios_cut items_of numbered_from form_of line_cut lines_from after each prefix_list_in community_list_in map_header_in match_prefix_in match_next_hop_in match_community_in match_path_in match_metric_in set_local_preference_in set_metric_in set_weight_in set_prepend_in set_origin_in set_next_hop_in set_community_in delete_communities_in continue_in description_in match_line_in set_value_in set_list_in line_in number_in prefix_in parts_at address_in community_in
+unfolding first_fault_within first_fault_from first_cause ios_tree ios_cut items_of numbered_from form_of line_cut lines_from after each list_in numbered_list_in permit_in origin_in community_word_in range_or_in prefix_list_in community_list_in map_header_in standard_in expanded_in communities_in line_of with_option match_prefix_in match_line_in set_number_in set_value_in set_list_in other_line_in line_in number_in prefix_in parts_at address_in community_in
 sound = refl
 
 -- 10.0.0.0/8 is accepted with MED 50
 accepts : ios_meaning (ios_tree past_deny) (codes "M") (route 167772160 8) ≡ Accept (record (route 167772160 8) { med = 50 })
-unfolding ios_meaning run first_match ios_tree ios_cut items_of numbered_from form_of line_cut lines_from after each prefix_list_in community_list_in map_header_in match_prefix_in match_next_hop_in match_community_in match_path_in match_metric_in set_local_preference_in set_metric_in set_weight_in set_prepend_in set_origin_in set_next_hop_in set_community_in delete_communities_in continue_in description_in match_line_in set_value_in set_list_in line_in number_in prefix_in parts_at address_in community_in
+unfolding ios_meaning run first_match ios_tree ios_cut items_of numbered_from form_of line_cut lines_from after each list_in numbered_list_in permit_in origin_in community_word_in range_or_in prefix_list_in community_list_in map_header_in standard_in expanded_in communities_in line_of with_option match_prefix_in match_line_in set_number_in set_value_in set_list_in other_line_in line_in number_in prefix_in parts_at address_in community_in
 accepts = refl
 
 -- 172.16.0.0/12 is rejected
 rejects : ios_meaning (ios_tree past_deny) (codes "M") (route 2886729728 12) ≡ Reject
-unfolding ios_meaning run first_match ios_tree ios_cut items_of numbered_from form_of line_cut lines_from after each prefix_list_in community_list_in map_header_in match_prefix_in match_next_hop_in match_community_in match_path_in match_metric_in set_local_preference_in set_metric_in set_weight_in set_prepend_in set_origin_in set_next_hop_in set_community_in delete_communities_in continue_in description_in match_line_in set_value_in set_list_in line_in number_in prefix_in parts_at address_in community_in
+unfolding ios_meaning run first_match ios_tree ios_cut items_of numbered_from form_of line_cut lines_from after each list_in numbered_list_in permit_in origin_in community_word_in range_or_in prefix_list_in community_list_in map_header_in standard_in expanded_in communities_in line_of with_option match_prefix_in match_line_in set_number_in set_value_in set_list_in other_line_in line_in number_in prefix_in parts_at address_in community_in
 rejects = refl
 
 -- the entries of a list by their numbers, and not as the text has them: a deny before a wider permit
@@ -63,12 +64,12 @@ denied_first =
 
 -- 10.1.2.0/24 is rejected
 denies : ios_meaning (ios_tree denied_first) (codes "M") (route 167838208 24) ≡ Reject
-unfolding ios_meaning run first_match list_answers ios_tree ios_cut items_of numbered_from form_of line_cut lines_from after each prefix_list_in community_list_in map_header_in match_prefix_in match_next_hop_in match_community_in match_path_in match_metric_in set_local_preference_in set_metric_in set_weight_in set_prepend_in set_origin_in set_next_hop_in set_community_in delete_communities_in continue_in description_in match_line_in set_value_in set_list_in line_in number_in prefix_in parts_at address_in community_in
+unfolding ios_meaning run first_match list_answers ios_tree ios_cut items_of numbered_from form_of line_cut lines_from after each list_in numbered_list_in permit_in origin_in community_word_in range_or_in prefix_list_in community_list_in map_header_in standard_in expanded_in communities_in line_of with_option match_prefix_in match_line_in set_number_in set_value_in set_list_in other_line_in line_in number_in prefix_in parts_at address_in community_in
 denies = refl
 
 -- 10.2.0.0/16 is accepted
 permits : ios_meaning (ios_tree denied_first) (codes "M") (route 167903232 16) ≡ Accept (route 167903232 16)
-unfolding ios_meaning run first_match list_answers ios_tree ios_cut items_of numbered_from form_of line_cut lines_from after each prefix_list_in community_list_in map_header_in match_prefix_in match_next_hop_in match_community_in match_path_in match_metric_in set_local_preference_in set_metric_in set_weight_in set_prepend_in set_origin_in set_next_hop_in set_community_in delete_communities_in continue_in description_in match_line_in set_value_in set_list_in line_in number_in prefix_in parts_at address_in community_in
+unfolding ios_meaning run first_match list_answers ios_tree ios_cut items_of numbered_from form_of line_cut lines_from after each list_in numbered_list_in permit_in origin_in community_word_in range_or_in prefix_list_in community_list_in map_header_in standard_in expanded_in communities_in line_of with_option match_prefix_in match_line_in set_number_in set_value_in set_list_in other_line_in line_in number_in prefix_in parts_at address_in community_in
 permits = refl
 
 -- all prefixes of full length
@@ -80,12 +81,12 @@ hosts =
 
 -- 255.255.255.255/32 is accepted
 accepts_host : ios_meaning (ios_tree hosts) (codes "M") (route 4294967295 32) ≡ Accept (route 4294967295 32)
-unfolding ios_meaning run first_match list_answers ios_tree ios_cut items_of numbered_from form_of line_cut lines_from after each prefix_list_in community_list_in map_header_in match_prefix_in match_next_hop_in match_community_in match_path_in match_metric_in set_local_preference_in set_metric_in set_weight_in set_prepend_in set_origin_in set_next_hop_in set_community_in delete_communities_in continue_in description_in match_line_in set_value_in set_list_in line_in number_in prefix_in parts_at address_in community_in
+unfolding ios_meaning run first_match list_answers ios_tree ios_cut items_of numbered_from form_of line_cut lines_from after each list_in numbered_list_in permit_in origin_in community_word_in range_or_in prefix_list_in community_list_in map_header_in standard_in expanded_in communities_in line_of with_option match_prefix_in match_line_in set_number_in set_value_in set_list_in other_line_in line_in number_in prefix_in parts_at address_in community_in
 accepts_host = refl
 
 -- 10.0.0.0/8 is rejected
 rejects_block : ios_meaning (ios_tree hosts) (codes "M") (route 167772160 8) ≡ Reject
-unfolding ios_meaning run first_match list_answers ios_tree ios_cut items_of numbered_from form_of line_cut lines_from after each prefix_list_in community_list_in map_header_in match_prefix_in match_next_hop_in match_community_in match_path_in match_metric_in set_local_preference_in set_metric_in set_weight_in set_prepend_in set_origin_in set_next_hop_in set_community_in delete_communities_in continue_in description_in match_line_in set_value_in set_list_in line_in number_in prefix_in parts_at address_in community_in
+unfolding ios_meaning run first_match list_answers ios_tree ios_cut items_of numbered_from form_of line_cut lines_from after each list_in numbered_list_in permit_in origin_in community_word_in range_or_in prefix_list_in community_list_in map_header_in standard_in expanded_in communities_in line_of with_option match_prefix_in match_line_in set_number_in set_value_in set_list_in other_line_in line_in number_in prefix_in parts_at address_in community_in
 rejects_block = refl
 
 -- what an entry deletes it may add again: the deletion comes first
@@ -102,5 +103,5 @@ tag low = record { 0 = 4259840000 + low }
 
 -- 65000:1 and 65000:3 become 65000:1, 65000:3 and 65000:4
 adds_again : ios_meaning (ios_tree deletes_first) (codes "M") (record (route 167772160 8) { communities = tag 1 ∷ tag 3 ∷ [] }) ≡ Accept (record (route 167772160 8) { communities = tag 1 ∷ tag 3 ∷ tag 4 ∷ [] })
-unfolding ios_meaning run first_match list_answers ios_tree ios_cut items_of numbered_from form_of line_cut lines_from after each prefix_list_in community_list_in map_header_in match_prefix_in match_next_hop_in match_community_in match_path_in match_metric_in set_local_preference_in set_metric_in set_weight_in set_prepend_in set_origin_in set_next_hop_in set_community_in delete_communities_in continue_in description_in match_line_in set_value_in set_list_in line_in number_in prefix_in parts_at address_in community_in
+unfolding ios_meaning run first_match list_answers ios_tree ios_cut items_of numbered_from form_of line_cut lines_from after each list_in numbered_list_in permit_in origin_in community_word_in range_or_in prefix_list_in community_list_in map_header_in standard_in expanded_in communities_in line_of with_option match_prefix_in match_line_in set_number_in set_value_in set_list_in other_line_in line_in number_in prefix_in parts_at address_in community_in
 adds_again = refl

@@ -5,3 +5,4 @@ pub mod Sorts
 pub mod Spelling
 pub mod Numbering
 pub mod Spans
+pub mod Reading

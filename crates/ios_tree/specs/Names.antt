@@ -4,7 +4,10 @@ use Rattle.std.specs.List.{list_all}
 use Rattle.route_types.specs.Words.{◌>>=◌, when, is_digit, number_in, parts_at, community_in}
 use Rattle.route_types.specs.Community.{RectParts}
 use Rattle.route_types.specs.declared.community.Community.{Community}
+use Rattle.route_types.specs.declared.route.Origin.{Origin}
+use Rattle.route_types.specs.declared.route.Origin.TheVariants.{Igp, Incomplete}
 use Rattle.policy_text.specs.Names.{is_name, first_some}
+use Rattle.policy_text.specs.Phrases.{one_of}
 
 -- digits without the zeros that stand before another digit
 abbrev pub without_zeros : List ℕ → List ℕ
@@ -17,29 +20,38 @@ abbrev pub list_name : List ℕ → List ℕ
 list_name word = elim (list_all is_digit word) [ true ↦ without_zeros word | false ↦ word ]
 
 -- the list that a word names
-abbrev pub list_in : List ℕ → Option (List ℕ)
+unfoldable pub list_in : List ℕ → Option (List ℕ)
 list_in word = when (is_name word) (list_name word)
 
--- the path list that a word names: a number from 1 on, which is its name
-abbrev pub path_list_in : List ℕ → Option (List ℕ)
-path_list_in word = do
-  n ← number_in (2 ^ 64 - 1) word
-  when (nat_le 1 n) word
+-- the list that a number between these names, by its text
+unfoldable pub numbered_list_in : ℕ → ℕ → List ℕ → Option (List ℕ)
+numbered_list_in least most word = do
+  n ← number_in most word
+  when (nat_le least n) word
+
+-- what an entry does
+abbrev pub actions : List (List ℕ × Bool)
+actions = (codes "permit", true) ∷ (codes "deny", false) ∷ []
 
 -- `permit` or `deny`
-abbrev pub permit_in : List ℕ → Option Bool
-permit_in word = first_some (when (bytes_eq word (codes "permit")) true) (when (bytes_eq word (codes "deny")) false)
+unfoldable pub permit_in : List ℕ → Option Bool
+permit_in word = one_of actions word
+
+-- the origins of routes that can be set
+abbrev pub origins : List (List ℕ × Origin)
+origins = (codes "igp", Igp) ∷ (codes "incomplete", Incomplete) ∷ []
+
+-- `igp` or `incomplete`
+unfoldable pub origin_in : List ℕ → Option Origin
+origin_in word = one_of origins word
 
 -- the community of 32 bits
 abbrev pub community_of_bits : ℕ → Community
 community_of_bits bits = record { 0 = bits }
 
 -- the communities that have a word of their own (RFC 1997; `local-AS` is NO_EXPORT_SUBCONFED)
-abbrev pub known_community : List ℕ → Option Community
-known_community word =
-    first_some (when (bytes_eq word (codes "no-export")) (community_of_bits 4294967041))
-    (first_some (when (bytes_eq word (codes "no-advertise")) (community_of_bits 4294967042))
-    (when (bytes_eq word (codes "local-AS")) (community_of_bits 4294967043)))
+abbrev pub known_communities : List (List ℕ × Community)
+known_communities = (codes "no-export", community_of_bits 4294967041) ∷ (codes "no-advertise", community_of_bits 4294967042) ∷ (codes "local-AS", community_of_bits 4294967043) ∷ []
 
 -- a community as one number, its 32 bits
 abbrev pub whole_community : List ℕ → Option Community
@@ -48,8 +60,8 @@ whole_community word = do
   Some (community_of_bits bits)
 
 -- the community that a word spells: `a:b`, a word of its own, or one number
-abbrev pub community_word_in : List ℕ → Option Community
-community_word_in word = first_some (community_in word) (first_some (known_community word) (whole_community word))
+unfoldable pub community_word_in : List ℕ → Option Community
+community_word_in word = first_some (community_in word) (first_some (one_of known_communities word) (whole_community word))
 
 -- the numbers that half of an expanded entry asks for: one, or all of them
 abbrev pub half_in : List ℕ → Option (ℕ × ℕ)

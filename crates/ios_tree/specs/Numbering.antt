@@ -10,7 +10,7 @@ use Rattle.policy_text.specs.Names.{or_else}
 use Rattle.ios_tree.specs.Names.{list_name}
 use Rattle.ios_tree.specs.Tree.{family_of, greatest_number, entry_with_number}
 use Rattle.ios_tree.specs.declared.item.IosForm.{IosForm}
-use Rattle.ios_tree.specs.declared.item.IosForm.TheVariants.{PrefixEntry, PrefixDescription, CommunityEntry, PathEntry, MapHeader, Line, Other}
+use Rattle.ios_tree.specs.declared.item.IosForm.TheVariants.{PrefixEntry}
 use Rattle.ios_tree.specs.declared.item.IosItem.{IosItem}
 use Rattle.ios_tree.specs.declared.number.Greatest.{Greatest}
 
@@ -33,19 +33,9 @@ numbered_by greatest (PrefixEntry e) = elim e.has_seq [
   | true ↦ PrefixEntry e
   | false ↦ entry_with_number e (greatest (family_of e) e.list + 5)
 ]
-numbered_by greatest (PrefixDescription d) = PrefixDescription d
-numbered_by greatest (CommunityEntry e) = CommunityEntry e
-numbered_by greatest (PathEntry e) = PathEntry e
-numbered_by greatest (MapHeader h) = MapHeader h
-numbered_by greatest (Line l) = Line l
-numbered_by greatest (Other o) = Other o
+numbered_by greatest form = form
 
 -- the third word names the list of an entry
 abbrev pub NamesList : List (List ℕ) → IosForm → Type 0
 NamesList ws (PrefixEntry e) = option_map list_name (slice_get ws 2) ≡ Some e.list
-NamesList ws (PrefixDescription d) = Unit {0}
-NamesList ws (CommunityEntry e) = Unit {0}
-NamesList ws (PathEntry e) = Unit {0}
-NamesList ws (MapHeader h) = Unit {0}
-NamesList ws (Line l) = Unit {0}
-NamesList ws (Other o) = Unit {0}
+NamesList ws _ = Unit {0}

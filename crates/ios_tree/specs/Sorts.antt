@@ -35,11 +35,8 @@ name_of_form (Other o) = o.name
 
 -- the sort of the lines of an entry
 abbrev pub is_line_sort : ItemSort → Bool
-is_line_sort (PrefixList family) = false
-is_line_sort CommunityList = false
-is_line_sort PathList = false
-is_line_sort Map = false
 is_line_sort Line = true
+is_line_sort _ = false
 
 -- the item is a line of an entry
 abbrev pub is_line : IosItem → Bool
@@ -47,11 +44,8 @@ is_line i = is_line_sort (sort_of_form i.form)
 
 -- the sort of the first lines of entries
 abbrev pub is_header_sort : ItemSort → Bool
-is_header_sort (PrefixList family) = false
-is_header_sort CommunityList = false
-is_header_sort PathList = false
 is_header_sort Map = true
-is_header_sort Line = false
+is_header_sort _ = false
 
 -- the item is the first line of an entry of the map of this name, of whatever form
 abbrev pub heads : List ℕ → IosItem → Bool
@@ -60,36 +54,22 @@ heads name i = is_header_sort (sort_of_form i.form) && is_named name (name_of_fo
 -- an item of the prefix lists of a family
 abbrev pub is_prefix_sort : Family → ItemSort → Bool
 is_prefix_sort family (PrefixList other) = same_family family other
-is_prefix_sort family CommunityList = false
-is_prefix_sort family PathList = false
-is_prefix_sort family Map = false
-is_prefix_sort family Line = false
+is_prefix_sort family _ = false
 
 -- an item of the community lists
 abbrev pub is_community_sort : ItemSort → Bool
-is_community_sort (PrefixList family) = false
 is_community_sort CommunityList = true
-is_community_sort PathList = false
-is_community_sort Map = false
-is_community_sort Line = false
+is_community_sort _ = false
 
 -- an item of the path lists
 abbrev pub is_path_sort : ItemSort → Bool
-is_path_sort (PrefixList family) = false
-is_path_sort CommunityList = false
 is_path_sort PathList = true
-is_path_sort Map = false
-is_path_sort Line = false
+is_path_sort _ = false
 
 -- a description of a list
 abbrev pub is_description : IosForm → Bool
-is_description (PrefixEntry e) = false
 is_description (PrefixDescription d) = true
-is_description (CommunityEntry e) = false
-is_description (PathEntry e) = false
-is_description (MapHeader h) = false
-is_description (OfLine l) = false
-is_description (Other o) = false
+is_description _ = false
 
 -- the entry is one of an expanded list
 abbrev pub is_expanded : CommunityShape → Bool

@@ -1,28 +1,24 @@
 -- Which words spell which form (Cisco IOS IP Routing: BGP command reference, 'ip prefix-list', 'ip
 -- community-list', 'ip as-path access-list', 'match as-path', 'match community', 'set community', 'set comm-list delete' and others; Cisco IOS IP
 -- Routing: Protocol-Independent command reference, 'route-map', 'match ip address', 'continue').
-use Rattle.std.specs.Prelude.{◌≡◌, ℕ, ◌-◌, ◌≤◌, ◌^◌, Bool, true, false, IsTrue, ◌⊎◌, List, [], ◌∷◌, ◌++◌, Some, None, codes, decimal, length}
+use Rattle.std.specs.Prelude.{◌≡◌, ℕ, ◌-◌, ◌≤◌, ◌^◌, Bool, true, false, IsTrue, ◌⊎◌, List, [], ◌∷◌, ◌++◌, Option, Some, None, codes}
 use Rattle.route_types.specs.Words.{IsNumber, IsAddress, IsPrefix, IsCommunity}
 use Rattle.route_types.specs.Community.{RectParts}
 use Rattle.route_types.specs.declared.address.Family.TheVariants.{V4}
 use Rattle.route_types.specs.declared.community.Community.{Community}
-use Rattle.route_types.specs.declared.route.Origin.{Origin}
-use Rattle.route_types.specs.declared.route.Origin.TheVariants.{Igp, Incomplete}
+use Rattle.prefix_sets.specs.declared.list.PrefixEntry.{PrefixEntry as Entry}
 use Rattle.policy_text.specs.Names.{is_name}
-use Rattle.policy_text.specs.Phrases.{Each}
+use Rattle.policy_text.specs.Bounds.{SpellBounds}
+use Rattle.policy_text.specs.Phrases.{Behind, One, First, Optional, AreSome, IsOneOf, IsNameWord}
 use Rattle.aspath_text.specs.IosGrammar.{SpellsPattern}
-use Rattle.ios_tree.specs.Names.{list_name, community_of_bits}
-use Rattle.ios_tree.specs.Sorts.{is_expanded}
+use Rattle.ios_tree.specs.Names.{list_name, actions, known_communities, origins}
+use Rattle.ios_tree.specs.Forms.{is_written, written_number}
 use Rattle.ios_tree.specs.declared.item.IosForm.{IosForm}
 use Rattle.ios_tree.specs.declared.item.IosForm.TheVariants.{PrefixEntry, PrefixDescription, CommunityEntry, PathEntry, MapHeader, Line, Other}
 use Rattle.ios_tree.specs.declared.item.PrefixListEntry.{PrefixListEntry}
 use Rattle.ios_tree.specs.declared.item.PrefixDescription.{PrefixDescription as Described}
-use Rattle.ios_tree.specs.declared.item.CommunityListEntry.{CommunityListEntry}
-use Rattle.ios_tree.specs.declared.item.PathListEntry.{PathListEntry}
 use Rattle.ios_tree.specs.declared.item.CommunityShape.{CommunityShape}
 use Rattle.ios_tree.specs.declared.item.CommunityShape.TheVariants.{Standard, Expanded}
-use Rattle.ios_tree.specs.declared.item.MapHeader.{MapHeader as Header}
-use Rattle.ios_tree.specs.declared.item.CommunityMatch.{CommunityMatch}
 use Rattle.ios_tree.specs.declared.item.CommunitySetting.{CommunitySetting}
 use Rattle.ios_tree.specs.declared.item.MapLine.{MapLine}
 use Rattle.ios_tree.specs.declared.item.MapLine.TheVariants.{MatchPrefix, MatchNextHop, MatchCommunity, MatchPath, MatchMetric, SetLocalPreference, SetMetric, SetWeight, SetPrepend, SetOrigin, SetNextHop, SetCommunity, DeleteCommunities, Continue, Description}
@@ -34,19 +30,10 @@ pub record IsListWord (word list : List ℕ) : Type 0 where
   pub named : IsTrue (is_name word)
   pub names : list ≡ list_name word
 
--- `permit` where it permits, else `deny`
-abbrev pub action_word : Bool → List ℕ
-action_word true = codes "permit"
-action_word false = codes "deny"
-
 -- a community: `a:b`, a word of its own, or one number up to 2^32 - 1, which is its bits
 abbrev pub IsCommunityWord : List ℕ → Community → Type 0
 IsCommunityWord word c =
-    IsCommunity word c
-    ⊎ ((word ≡ codes "no-export") × (c ≡ community_of_bits 4294967041))
-    ⊎ ((word ≡ codes "no-advertise") × (c ≡ community_of_bits 4294967042))
-    ⊎ ((word ≡ codes "local-AS") × (c ≡ community_of_bits 4294967043))
-    ⊎ IsNumber (2 ^ 32 - 1) word c.0
+    IsCommunity word c ⊎ IsOneOf known_communities word c ⊎ IsNumber (2 ^ 32 - 1) word c.0
 
 -- half of an expanded entry: one number, or `[0-9]+` for all
 abbrev pub IsHalf : List ℕ → ℕ → ℕ → Type 0
@@ -60,11 +47,6 @@ pub record IsShape (word : List ℕ) (r : RectParts) : Type 0 where
   pub high_half : IsHalf high r.high_least r.high_most
   pub low_half : IsHalf low r.low_least r.low_most
 
--- at least one word, and each of them means what stands at its place
-pub record AreSome {A : Type 0} (P : List ℕ → A → Type 0) (words : List (List ℕ)) (xs : List A) : Type 0 where
-  pub some : 1 ≤ length words
-  pub each : Each P words xs
-
 -- one or more names of lists
 abbrev pub AreLists : List (List ℕ) → List (List ℕ) → Type 0
 AreLists words lists = AreSome IsListWord words lists
@@ -77,147 +59,116 @@ AreNumbers words ns = AreSome (IsNumber (2 ^ 32 - 1)) words ns
 abbrev pub AreCommunities : List (List ℕ) → List Community → Type 0
 AreCommunities words cs = AreSome IsCommunityWord words cs
 
--- a number from 1 to 2^64 - 1, which is the name of a path list
-pub record IsPathListWord (word list : List ℕ) : Type 0 where
+-- a number between these, which is the name of a list
+pub record IsListNumber (least most : ℕ) (word list : List ℕ) : Type 0 where
   pub number : ℕ
-  pub spelled : IsNumber (2 ^ 64 - 1) word number
-  pub some : 1 ≤ number
+  pub spelled : IsNumber most word number
+  pub some : least ≤ number
   pub names : list ≡ word
 
--- one or more names of path lists
-abbrev pub ArePathLists : List (List ℕ) → List (List ℕ) → Type 0
-ArePathLists words lists = AreSome IsPathListWord words lists
+-- a number from 1 to 2^64 - 1, which is the name of a path list
+abbrev pub IsPathListWord : List ℕ → List ℕ → Type 0
+IsPathListWord word list = IsListNumber 1 (2 ^ 64 - 1) word list
 
 -- ---- lists
 
--- what may stand behind a prefix of length n, and the lengths that it gives: n <= least <= most <= 32
-abbrev pub SpellBounds : ℕ → List (List ℕ) → ℕ → ℕ → Type 0
-SpellBounds n ws least most = (n ≤ least) × (least ≤ most) × (most ≤ 32) × (
-    ((ws ≡ []) × (least ≡ n) × (most ≡ n))
-    ⊎ ((ws ≡ codes "ge" ∷ decimal least ∷ []) × (most ≡ 32))
-    ⊎ ((ws ≡ codes "le" ∷ decimal most ∷ []) × (least ≡ n))
-    ⊎ (ws ≡ codes "ge" ∷ decimal least ∷ codes "le" ∷ decimal most ∷ []))
+-- what stands behind these words: the name of a list, `permit` or `deny`, and what is asked for
+abbrev pub SpellEntry : {A : Type 0} → List (List ℕ) → (List ℕ → List ℕ → Type 0) → (List (List ℕ) → A → Type 0) → List (List ℕ) → List ℕ × (Bool × A) → Type 0
+SpellEntry ks Name Shape ws e = Behind ks (First Name (First (IsOneOf actions) Shape)) ws e
 
--- `seq S` with a number up to 2^64 - 1, or nothing and 0 until the entry gets its number by its place
-abbrev pub SpellSeq : List (List ℕ) → Bool → ℕ → Type 0
-SpellSeq ws true number = (ws ≡ codes "seq" ∷ decimal number ∷ []) × (number ≤ 2 ^ 64 - 1)
-SpellSeq ws false number = (ws ≡ []) × (number ≡ 0)
-
--- `ip prefix-list N [seq S] permit|deny P [ge G] [le E]`
-pub record SpellPrefixEntry (ws : List (List ℕ)) (e : PrefixListEntry) : Type 0 where
-  pub name : List ℕ
-  pub seq : List (List ℕ)
+-- `permit|deny P [ge G] [le E]`
+pub record SpellRange (ws : List (List ℕ)) (e : Entry) : Type 0 where
+  pub action : List ℕ
   pub prefix_word : List ℕ
   pub bounds : List (List ℕ)
-  pub words : ws ≡ codes "ip" ∷ codes "prefix-list" ∷ name ∷ (seq ++ (action_word e.entry.permit ∷ prefix_word ∷ bounds))
-  pub list : IsListWord name e.list
-  pub number : SpellSeq seq e.has_seq e.number
-  pub prefix : IsPrefix prefix_word e.entry.range.prefix
-  pub lengths : SpellBounds e.entry.range.prefix.length bounds e.entry.range.least e.entry.range.most
+  pub words : ws ≡ action ∷ prefix_word ∷ bounds
+  pub permit : IsOneOf actions action e.permit
+  pub prefix : IsPrefix prefix_word e.range.prefix
+  pub lengths : SpellBounds e.range.prefix.length bounds (e.range.least, e.range.most)
+
+-- `permit|deny P [ge G] [le E]`, or `description W..`
+abbrev pub SpellRangeOr : List (List ℕ) → Option Entry → Type 0
+SpellRangeOr ws (Some e) = SpellRange ws e
+SpellRangeOr ws None = (rest : List (List ℕ)) × (ws ≡ codes "description" ∷ rest)
+
+-- `ip prefix-list N [seq S]`, and what stands behind it
+abbrev pub SpellPrefixList : List (List ℕ) → List ℕ × (Option ℕ × Option Entry) → Type 0
+SpellPrefixList ws x = Behind (codes "ip" ∷ codes "prefix-list" ∷ []) (First IsListWord (Optional (codes "seq" ∷ []) (IsNumber (2 ^ 64 - 1)) SpellRangeOr)) ws x
+
+-- `ip prefix-list N [seq S] permit|deny P [ge G] [le E]`; a number that isn't written is 0 until the entry
+-- gets one by its place
+pub record SpellPrefixEntry (ws : List (List ℕ)) (e : PrefixListEntry) : Type 0 where
+  pub seq : Option ℕ
+  pub words : SpellPrefixList ws (e.list, (seq, Some e.entry))
+  pub written : e.has_seq ≡ is_written seq
+  pub number : e.number ≡ written_number seq
 
 -- `ip prefix-list N [seq S] description W..`
 pub record SpellPrefixDescription (ws : List (List ℕ)) (d : Described) : Type 0 where
-  pub name : List ℕ
-  pub seq : List (List ℕ)
-  pub has_seq : Bool
-  pub number : ℕ
-  pub rest : List (List ℕ)
-  pub words : ws ≡ codes "ip" ∷ codes "prefix-list" ∷ name ∷ (seq ++ (codes "description" ∷ rest))
-  pub list : IsListWord name d.list
-  pub spelled_number : SpellSeq seq has_seq number
+  pub seq : Option ℕ
+  pub words : SpellPrefixList ws (d.list, (seq, None))
   pub family : d.family ≡ V4
 
--- what names a community list: `standard N` or `expanded N`, or a number, 1 to 99 for a standard list and
--- 100 to 500 for an expanded one
-abbrev pub SpellCommunityList : List (List ℕ) → Bool → List ℕ → Type 0
-SpellCommunityList ws false list =
-    ((name : List ℕ) × (ws ≡ codes "standard" ∷ name ∷ []) × IsListWord name list)
-    ⊎ ((n : ℕ) × (ws ≡ decimal n ∷ []) × (1 ≤ n) × (n ≤ 99) × (list ≡ decimal n))
-SpellCommunityList ws true list =
-    ((name : List ℕ) × (ws ≡ codes "expanded" ∷ name ∷ []) × IsListWord name list)
-    ⊎ ((n : ℕ) × (ws ≡ decimal n ∷ []) × (100 ≤ n) × (n ≤ 500) × (list ≡ decimal n))
+-- `ip community-list n|standard N permit|deny C..` with n from 1 to 99, `ip community-list n|expanded N
+-- permit|deny X` with n from 100 to 500
+abbrev pub SpellCommunityEntry : List (List ℕ) → List ℕ → Bool → CommunityShape → Type 0
+SpellCommunityEntry ws list permit (Standard cs) =
+    SpellEntry (codes "ip" ∷ codes "community-list" ∷ codes "standard" ∷ []) IsListWord AreCommunities ws (list, (permit, cs))
+    ⊎ SpellEntry (codes "ip" ∷ codes "community-list" ∷ []) (IsListNumber 1 99) AreCommunities ws (list, (permit, cs))
+SpellCommunityEntry ws list permit (Expanded r) =
+    SpellEntry (codes "ip" ∷ codes "community-list" ∷ codes "expanded" ∷ []) IsListWord (One IsShape) ws (list, (permit, r))
+    ⊎ SpellEntry (codes "ip" ∷ codes "community-list" ∷ []) (IsListNumber 100 500) (One IsShape) ws (list, (permit, r))
 
--- communities, or one pattern
-abbrev pub SpellShape : List (List ℕ) → CommunityShape → Type 0
-SpellShape ws (Standard cs) = AreCommunities ws cs
-SpellShape ws (Expanded r) = (word : List ℕ) × (ws ≡ word ∷ []) × IsShape word r
-
--- `ip community-list n|standard N permit|deny C..`, `ip community-list n|expanded N permit|deny X`
-pub record SpellCommunityEntry (ws : List (List ℕ)) (e : CommunityListEntry) : Type 0 where
-  pub head : List (List ℕ)
-  pub body : List (List ℕ)
-  pub words : ws ≡ codes "ip" ∷ codes "community-list" ∷ (head ++ (action_word e.permit ∷ body))
-  pub list : SpellCommunityList head (is_expanded e.shape) e.list
-  pub shape : SpellShape body e.shape
-
--- `ip as-path access-list n permit|deny X`
-pub record SpellPathEntry (ws : List (List ℕ)) (e : PathListEntry) : Type 0 where
-  pub name : List ℕ
-  pub word : List ℕ
-  pub words : ws ≡ codes "ip" ∷ codes "as-path" ∷ codes "access-list" ∷ name ∷ action_word e.permit ∷ word ∷ []
-  pub list : IsPathListWord name e.list
-  pub shape : SpellsPattern word e.pattern
-
--- ---- route-maps
-
--- `route-map N permit|deny S`
-pub record SpellMapHeader (ws : List (List ℕ)) (h : Header) : Type 0 where
-  pub words : ws ≡ codes "route-map" ∷ h.map ∷ action_word h.permit ∷ decimal h.number ∷ []
-  pub named : IsTrue (is_name h.map)
-  pub number : h.number ≤ 2 ^ 64 - 1
+-- ---- lines of route-maps
 
 -- words and an option behind them; where it isn't taken, they don't end in its word behind another one
 abbrev pub SpellOption : List ℕ → List (List ℕ) → Bool → List (List ℕ) → Type 0
 SpellOption key ws true words = ws ≡ words ++ (key ∷ [])
 SpellOption key ws false words = (ws ≡ words) × ((first : List ℕ) (front : List (List ℕ)) → ws ≡ first ∷ (front ++ (key ∷ [])) → ⊥)
 
--- `N.. [exact-match]`
-pub record SpellCommunityMatch (ws : List (List ℕ)) (m : CommunityMatch) : Type 0 where
-  pub names : List (List ℕ)
-  pub option : SpellOption (codes "exact-match") ws m.exact names
-  pub lists : AreLists names m.lists
-
--- `C.. [additive]`
-pub record SpellCommunities (ws : List (List ℕ)) (s : CommunitySetting) : Type 0 where
+-- one or more words with their values, and an option behind them
+pub record WithOption {A : Type 0} (key : List ℕ) (P : List ℕ → A → Type 0) (ws : List (List ℕ)) (x : List A × Bool) : Type 0 where
   pub words : List (List ℕ)
-  pub option : SpellOption (codes "additive") ws s.additive words
-  pub communities : AreCommunities words s.communities
+  pub option : SpellOption key ws x.1 words
+  pub values : AreSome P words x.0
 
--- `none`
-pub record SpellNone (ws : List (List ℕ)) (s : CommunitySetting) : Type 0 where
-  pub words : ws ≡ codes "none" ∷ []
-  pub communities : s.communities ≡ []
-  pub additive : s.additive ≡ false
+-- `C.. [additive]`, or `none`
+abbrev pub SpellCommunities : List (List ℕ) → CommunitySetting → Type 0
+SpellCommunities ws s = ((ws ≡ codes "none" ∷ []) × (s.communities ≡ []) × (s.additive ≡ false)) ⊎ WithOption (codes "additive") IsCommunityWord ws (s.communities, s.additive)
 
--- `igp` or `incomplete`
-abbrev pub IsOriginWord : List ℕ → Origin → Type 0
-IsOriginWord word o = ((word ≡ codes "igp") × (o ≡ Igp)) ⊎ ((word ≡ codes "incomplete") × (o ≡ Incomplete))
+-- a word that spells the value, and this one behind it
+abbrev pub Followed : {A : Type 0} → List ℕ → (List ℕ → A → Type 0) → List (List ℕ) → A → Type 0
+Followed key P ws x = (w : List ℕ) × (ws ≡ w ∷ key ∷ []) × P w x
+
+-- nothing, or `S`
+abbrev pub SpellTarget : List (List ℕ) → Option ℕ → Type 0
+SpellTarget ws None = ws ≡ []
+SpellTarget ws (Some n) = One (IsNumber (2 ^ 64 - 1)) ws n
 
 -- words spell a line of an entry
 abbrev pub SpellLine : List (List ℕ) → MapLine → Type 0
-SpellLine ws (MatchPrefix m) = (names : List (List ℕ)) × (ws ≡ codes "match" ∷ codes "ip" ∷ codes "address" ∷ codes "prefix-list" ∷ names) × (m.family ≡ V4) × AreLists names m.lists
-SpellLine ws (MatchNextHop m) = (names : List (List ℕ)) × (ws ≡ codes "match" ∷ codes "ip" ∷ codes "next-hop" ∷ codes "prefix-list" ∷ names) × (m.family ≡ V4) × AreLists names m.lists
-SpellLine ws (MatchCommunity m) = (rest : List (List ℕ)) × (ws ≡ codes "match" ∷ codes "community" ∷ rest) × SpellCommunityMatch rest m
-SpellLine ws (MatchPath m) = (numbers : List (List ℕ)) × (ws ≡ codes "match" ∷ codes "as-path" ∷ numbers) × ArePathLists numbers m.lists
-SpellLine ws (MatchMetric ns) = (numbers : List (List ℕ)) × (ws ≡ codes "match" ∷ codes "metric" ∷ numbers) × AreNumbers numbers ns
-SpellLine ws (SetLocalPreference n) = (ws ≡ codes "set" ∷ codes "local-preference" ∷ decimal n ∷ []) × (n ≤ 2 ^ 32 - 1)
-SpellLine ws (SetMetric n) = (ws ≡ codes "set" ∷ codes "metric" ∷ decimal n ∷ []) × (n ≤ 2 ^ 32 - 1)
-SpellLine ws (SetWeight n) = (ws ≡ codes "set" ∷ codes "weight" ∷ decimal n ∷ []) × (n ≤ 65535)
-SpellLine ws (SetPrepend ns) = (numbers : List (List ℕ)) × (ws ≡ codes "set" ∷ codes "as-path" ∷ codes "prepend" ∷ numbers) × AreNumbers numbers ns
-SpellLine ws (SetOrigin o) = (word : List ℕ) × (ws ≡ codes "set" ∷ codes "origin" ∷ word ∷ []) × IsOriginWord word o
-SpellLine ws (SetNextHop a) = (word : List ℕ) × (ws ≡ codes "set" ∷ codes "ip" ∷ codes "next-hop" ∷ word ∷ []) × IsAddress word a
-SpellLine ws (SetCommunity s) = (rest : List (List ℕ)) × (ws ≡ codes "set" ∷ codes "community" ∷ rest) × (SpellNone rest s ⊎ SpellCommunities rest s)
-SpellLine ws (DeleteCommunities list) = (name : List ℕ) × (ws ≡ codes "set" ∷ codes "comm-list" ∷ name ∷ codes "delete" ∷ []) × IsListWord name list
-SpellLine ws (Continue None) = ws ≡ codes "continue" ∷ []
-SpellLine ws (Continue (Some n)) = (ws ≡ codes "continue" ∷ decimal n ∷ []) × (n ≤ 2 ^ 64 - 1)
+SpellLine ws (MatchPrefix m) = Behind (codes "match" ∷ codes "ip" ∷ codes "address" ∷ codes "prefix-list" ∷ []) AreLists ws m.lists × (m.family ≡ V4)
+SpellLine ws (MatchNextHop m) = Behind (codes "match" ∷ codes "ip" ∷ codes "next-hop" ∷ codes "prefix-list" ∷ []) AreLists ws m.lists × (m.family ≡ V4)
+SpellLine ws (MatchCommunity m) = Behind (codes "match" ∷ codes "community" ∷ []) (WithOption (codes "exact-match") IsListWord) ws (m.lists, m.exact)
+SpellLine ws (MatchPath m) = Behind (codes "match" ∷ codes "as-path" ∷ []) (AreSome IsPathListWord) ws m.lists
+SpellLine ws (MatchMetric ns) = Behind (codes "match" ∷ codes "metric" ∷ []) AreNumbers ws ns
+SpellLine ws (SetLocalPreference n) = Behind (codes "set" ∷ codes "local-preference" ∷ []) (One (IsNumber (2 ^ 32 - 1))) ws n
+SpellLine ws (SetMetric n) = Behind (codes "set" ∷ codes "metric" ∷ []) (One (IsNumber (2 ^ 32 - 1))) ws n
+SpellLine ws (SetWeight n) = Behind (codes "set" ∷ codes "weight" ∷ []) (One (IsNumber 65535)) ws n
+SpellLine ws (SetPrepend ns) = Behind (codes "set" ∷ codes "as-path" ∷ codes "prepend" ∷ []) AreNumbers ws ns
+SpellLine ws (SetOrigin o) = Behind (codes "set" ∷ codes "origin" ∷ []) (One (IsOneOf origins)) ws o
+SpellLine ws (SetNextHop a) = Behind (codes "set" ∷ codes "ip" ∷ codes "next-hop" ∷ []) (One IsAddress) ws a
+SpellLine ws (SetCommunity s) = Behind (codes "set" ∷ codes "community" ∷ []) SpellCommunities ws s
+SpellLine ws (DeleteCommunities list) = Behind (codes "set" ∷ codes "comm-list" ∷ []) (Followed (codes "delete") IsListWord) ws list
+SpellLine ws (Continue target) = Behind (codes "continue" ∷ []) SpellTarget ws target
 SpellLine ws Description = (rest : List (List ℕ)) × (ws ≡ codes "description" ∷ rest)
 
 -- words spell a form
 abbrev pub Spell : List (List ℕ) → IosForm → Type 0
 Spell ws (PrefixEntry e) = SpellPrefixEntry ws e
 Spell ws (PrefixDescription d) = SpellPrefixDescription ws d
-Spell ws (CommunityEntry e) = SpellCommunityEntry ws e
-Spell ws (PathEntry e) = SpellPathEntry ws e
-Spell ws (MapHeader h) = SpellMapHeader ws h
+Spell ws (CommunityEntry e) = SpellCommunityEntry ws e.list e.permit e.shape
+Spell ws (PathEntry e) = SpellEntry (codes "ip" ∷ codes "as-path" ∷ codes "access-list" ∷ []) IsPathListWord (One SpellsPattern) ws (e.list, (e.permit, e.pattern))
+Spell ws (MapHeader h) = SpellEntry (codes "route-map" ∷ []) IsNameWord (One (IsNumber (2 ^ 64 - 1))) ws (h.map, (h.permit, h.number))
 Spell ws (Line l) = SpellLine ws l
 Spell ws (Other o) = ⊥

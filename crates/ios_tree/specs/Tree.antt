@@ -4,7 +4,7 @@ use Rattle.std.specs.Prelude.{ℕ, ◌+◌, ◌-◌, ◌^◌, Bool, true, false,
 use Rattle.std.specs.List.{list_any}
 use Rattle.route_types.specs.Address.{same_family}
 use Rattle.route_types.specs.declared.address.Family.{Family}
-use Rattle.route_types.specs.declared.address.Family.TheVariants.{V4}
+use Rattle.route_types.specs.declared.address.Family.TheVariants.{V4, V6}
 use Rattle.text_words.specs.declared.statement.Statement.{Statement}
 use Rattle.text_words.specs.IosCut.{ios_cut}
 use Rattle.policy_text.specs.Names.{or_else}
@@ -14,7 +14,7 @@ use Rattle.ios_tree.specs.Forms.{prefix_list_in, community_list_in, path_entry_i
 use Rattle.ios_tree.specs.declared.item.ItemSort.{ItemSort}
 use Rattle.ios_tree.specs.declared.item.ItemSort.TheVariants.{PrefixList, CommunityList, PathList, Map, Line}
 use Rattle.ios_tree.specs.declared.item.IosForm.{IosForm}
-use Rattle.ios_tree.specs.declared.item.IosForm.TheVariants.{PrefixEntry, PrefixDescription, CommunityEntry, PathEntry, MapHeader, Other}
+use Rattle.ios_tree.specs.declared.item.IosForm.TheVariants.{PrefixEntry, Other}
 use Rattle.ios_tree.specs.declared.item.IosForm.TheVariants.{Line as OfLine}
 use Rattle.ios_tree.specs.declared.item.PrefixListEntry.{PrefixListEntry}
 use Rattle.ios_tree.specs.declared.item.IosItem.{IosItem}
@@ -65,7 +65,8 @@ name_under Line ws = None
 
 -- the known form of a statement of this sort, if it has one
 abbrev pub known_form : ItemSort → List (List ℕ) → Option IosForm
-known_form (PrefixList family) ws = prefix_list_in ws
+known_form (PrefixList V4) ws = prefix_list_in ws
+known_form (PrefixList V6) ws = None
 known_form CommunityList ws = community_list_in ws
 known_form PathList ws = path_entry_in ws
 known_form Map ws = map_header_in ws
@@ -77,19 +78,14 @@ form_of sort ws = or_else (known_form sort ws) (Other (record { sort = sort; nam
 
 -- whether an entry is open behind an item of this sort
 abbrev pub opens : ItemSort → Bool
-opens (PrefixList family) = false
-opens CommunityList = false
-opens PathList = false
 opens Map = true
 opens Line = true
+opens _ = false
 
 -- a line belongs to the open entry; where none is open it is foreign
 abbrev pub belongs : Bool → ItemSort → Bool
-belongs entry_open (PrefixList family) = true
-belongs entry_open CommunityList = true
-belongs entry_open PathList = true
-belongs entry_open Map = true
 belongs entry_open Line = entry_open
+belongs entry_open _ = true
 
 -- the items of statements as they are written, an entry being open before them or not
 unfoldable pub items_of : Bool → List Statement → List IosItem
@@ -117,12 +113,7 @@ greater m n = elim (nat_le m n) [ true ↦ n | false ↦ m ]
 -- the greater of the number of a form that is an entry of this list and of another number
 abbrev pub greatest_with : Family → List ℕ → IosForm → ℕ → ℕ
 greatest_with family list (PrefixEntry e) rest = elim (is_of_list family list e) [ true ↦ greater e.number rest | false ↦ rest ]
-greatest_with family list (PrefixDescription d) rest = rest
-greatest_with family list (CommunityEntry e) rest = rest
-greatest_with family list (PathEntry e) rest = rest
-greatest_with family list (MapHeader h) rest = rest
-greatest_with family list (OfLine l) rest = rest
-greatest_with family list (Other o) rest = rest
+greatest_with family list _ rest = rest
 
 -- the greatest number that the entries of a list have among these items; 0 where it has none
 abbrev pub greatest_number : Family → List ℕ → List IosItem → ℕ
@@ -143,12 +134,7 @@ numbered before (PrefixEntry e) = elim e.has_seq [
   | true ↦ PrefixEntry e
   | false ↦ entry_with_number e (greatest_number (family_of e) e.list before + 5)
 ]
-numbered before (PrefixDescription d) = PrefixDescription d
-numbered before (CommunityEntry e) = CommunityEntry e
-numbered before (PathEntry e) = PathEntry e
-numbered before (MapHeader h) = MapHeader h
-numbered before (OfLine l) = OfLine l
-numbered before (Other o) = Other o
+numbered before form = form
 
 -- the item with its number
 abbrev pub numbered_item : List IosItem → IosItem → IosItem

@@ -8,8 +8,7 @@ ghost use Rattle.ios_tree.specs.declared.item.ItemSort.TheVariants.{CommunityLis
 
 use crate::item::{IosForm, ItemSort, OtherItem};
 use crate::lines::line_in;
-use crate::lists::{community_list_in, map_header_in, prefix_list_in};
-use crate::path_lists::path_entry_in;
+use crate::lists::{community_list_in, map_header_in, path_entry_in, prefix_list_in};
 use crate::words::list_name;
 use policy_text::{Word, after, copied, is};
 use route_types::{Family, Memory, Row};
@@ -145,7 +144,8 @@ fn known_form(alloc: Global, sort: ItemSort, words: &[Word]) -> Result<Option<Io
     ensures { IfOk result (λ o. o ≡ known_form sort (texts words.now)) }
 {
     match sort {
-        ItemSort::PrefixList(_) => prefix_list_in(alloc, words),
+        ItemSort::PrefixList(Family::V4) => prefix_list_in(alloc, words),
+        ItemSort::PrefixList(Family::V6) => Ok(None),
         ItemSort::CommunityList => community_list_in(alloc, words),
         ItemSort::PathList => path_entry_in(alloc, words),
         ItemSort::Map => map_header_in(alloc, words),

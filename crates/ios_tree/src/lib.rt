@@ -9,9 +9,7 @@ mod laws;
 mod lines;
 mod lists;
 mod number;
-mod path_lists;
 mod read;
-mod set_lines;
 mod tree;
 mod words;
 
@@ -20,6 +18,6 @@ pub use item::{
     ItemSort, MapHeader, MapLine, OtherItem, PathListEntry, PathMatch, PrefixDescription,
     PrefixListEntry, PrefixMatch,
 };
-pub use laws::forms_are_spelled;
+pub use laws::{forms_are_spelled, one_reading};
 pub use read::read_ios;
 pub use tree::IosTree;

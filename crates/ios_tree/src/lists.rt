@@ -1,35 +1,28 @@
-//! The entries of prefix lists and community lists, and the headers of route-maps.
+//! The entries of lists, and the headers of route-maps.
 
-ghost use Rattle.std.specs.Prelude.{◌≡◌, ◌&&◌, true, false, IfOk, codes, option_map, bytes_eq};
-ghost use Rattle.policy_text.specs.Names.{is_name};
-ghost use Rattle.policy_text.specs.Phrases.{texts, only};
-ghost use Rattle.ios_tree.specs.Names.{shape_in};
-ghost use Rattle.ios_tree.specs.Forms.{seq_in, is_written, written_number, entry_in, prefix_entry_in, prefix_description_in, named_prefix_in, prefix_list_in, community_shape_in, community_entry_in, numbered_community_in, named_community_in, listed_community_in, community_list_in, map_header_in};
+ghost use Rattle.std.specs.Prelude.{◌≡◌, [], ◌∷◌, ◌-◌, ◌^◌, IfOk, map, option_map};
+ghost use Rattle.policy_text.specs.Phrases.{texts};
+ghost use Rattle.ios_tree.specs.Forms.{is_written, written_number, range_in, range_or_in, prefix_form, prefix_list_in, head_in, standard_in, expanded_in, community_list_in, path_entry_in, map_header_in};
+ghost use Rattle.ios_tree.specs.Names.{permit_in};
 
 use crate::item::{
-    CommunityListEntry, CommunityShape, IosForm, MapHeader, PrefixDescription, PrefixListEntry,
+    CommunityListEntry, CommunityShape, IosForm, MapHeader, PathListEntry, PrefixDescription,
+    PrefixListEntry,
 };
-use crate::words::{communities, list_in, permit_in, shape_in};
-use policy_text::{Word, after, bounds, copied, is, is_name, read_number, read_prefix};
+use crate::words::{
+    ActionWord, CommunityWord, ExpandedNumber, ListWord, PathNumber, PatternWord, ShapeWord,
+    StandardNumber, permit_in,
+};
+use aspath_text::IosPattern;
+use policy_text::{
+    NameWord, Number64, Reads, Word, after, bounds, one_word, optional_at, read_prefix, some_words,
+    value_at,
+};
 use prefix_sets::{PrefixEntry, PrefixRange};
-use route_types::{Family, Memory, Rect};
+use route_types::{Community, Family, Memory, Rect, Row};
 use std::alloc::Global;
 
 // ---- prefix lists
-
-// The number that `seq S` in front gives, if it stands there, and the words behind it.
-fn seq_in(words: &[Word]) -> Option<(Option<u64>, &[Word])>
-    ensures { option_map (λ p. (p.0, texts p.1.now)) result ≡ seq_in (texts words.now) }
-{
-    let [key, number, rest @ ..] = words else {
-        return Some((None, words));
-    };
-    if !is(key, b"seq") {
-        return Some((None, words));
-    }
-    let number = read_number(number.text.as_slice(), u64::MAX)?;
-    Some((Some(number), rest))
-}
 
 fn written_number(number: Option<u64>) -> u64
     ensures { result ≡ written_number number }
@@ -47,72 +40,51 @@ fn is_written(number: Option<u64>) -> bool
 }
 
 // What `permit|deny P [ge G] [le E]` says.
-fn entry_in(words: &[Word]) -> Option<PrefixEntry>
-    ensures { result ≡ entry_in (texts words.now) }
+fn range_in(words: &[Word]) -> Option<PrefixEntry>
+    ensures { result ≡ range_in (texts words.now) }
 {
-    let [action, prefix, lengths @ ..] = words else {
+    let [action, rest @ ..] = words else {
         return None;
     };
-    let permit = permit_in(action)?;
+    let permit = permit_in(action.text.as_slice())?;
+    let [prefix, lengths @ ..] = rest else {
+        return None;
+    };
     let prefix = read_prefix(prefix.text.as_slice())?;
     let (least, most) = bounds(prefix.length(), lengths)?;
     let range = PrefixRange::new(prefix, least, most);
     Some(PrefixEntry { permit, range })
 }
 
-fn prefix_entry_in(
-    alloc: Global,
-    list: &[u8],
-    number: Option<u64>,
-    words: &[Word],
-) -> Result<Option<IosForm>, Memory>
-    ensures { IfOk result (λ o. o ≡ prefix_entry_in list.now number (texts words.now)) }
+// What an entry says, or nothing for a description.
+#[tactic(auto, unfolding(crate::specs::Forms::range_or_in, policy_text::specs::Phrases::after))]
+fn range_or_in(words: &[Word]) -> Option<Option<PrefixEntry>>
+    ensures { result ≡ range_or_in (texts words.now) }
 {
-    let Some(entry) = entry_in(words) else {
-        return Ok(None);
-    };
-    Ok(Some(IosForm::PrefixEntry(PrefixListEntry {
-        list: copied(alloc, list)?,
-        has_seq: is_written(number),
-        number: written_number(number),
-        entry,
-    })))
-}
-
-#[tactic(auto, unfolding(policy_text::specs::Phrases::after))]
-fn prefix_description_in(
-    alloc: Global,
-    list: &[u8],
-    words: &[Word],
-) -> Result<Option<IosForm>, Memory>
-    ensures { IfOk result (λ o. o ≡ prefix_description_in list.now (texts words.now)) }
-{
+    if let Some(entry) = range_in(words) {
+        return Some(Some(entry));
+    }
     match after(words, &[b"description"]) {
-        None => Ok(None),
-        Some(_) => Ok(Some(IosForm::PrefixDescription(PrefixDescription {
-            family: Family::V4,
-            list: copied(alloc, list)?,
-        }))),
+        None => None,
+        Some(_) => Some(None),
     }
 }
 
-// `N [seq S]` and what stands behind it.
-fn named_prefix_in(alloc: Global, words: &[Word]) -> Result<Option<IosForm>, Memory>
-    ensures { IfOk result (λ o. o ≡ named_prefix_in (texts words.now)) }
+fn prefix_form(list: Row<u8>, number: Option<u64>, entry: Option<PrefixEntry>) -> IosForm
+    ensures { result ≡ prefix_form (list, (number, entry)) }
 {
-    let [name, rest @ ..] = words else {
-        return Ok(None);
-    };
-    let Some(list) = list_in(name) else {
-        return Ok(None);
-    };
-    let Some((number, rest)) = seq_in(rest) else {
-        return Ok(None);
-    };
-    if let Some(form) = prefix_entry_in(alloc, list, number, rest)? {
-        return Ok(Some(form));
+    match entry {
+        None => IosForm::PrefixDescription(PrefixDescription {
+            family: Family::V4,
+            list,
+        }),
+        Some(entry) => IosForm::PrefixEntry(PrefixListEntry {
+            list,
+            has_seq: is_written(number),
+            number: written_number(number),
+            entry,
+        }),
     }
-    prefix_description_in(alloc, list, rest)
 }
 
 // `ip prefix-list N [seq S] permit|deny P [ge G] [le E]`, `ip prefix-list N [seq S] description W..`
@@ -120,125 +92,87 @@ fn named_prefix_in(alloc: Global, words: &[Word]) -> Result<Option<IosForm>, Mem
 pub(crate) fn prefix_list_in(alloc: Global, words: &[Word]) -> Result<Option<IosForm>, Memory>
     ensures { IfOk result (λ o. o ≡ prefix_list_in (texts words.now)) }
 {
-    match after(words, &[b"ip", b"prefix-list"]) {
+    let Some(rest) = after(words, &[b"ip", b"prefix-list"]) else {
+        return Ok(None);
+    };
+    let Some((list, rest)) = value_at::<Row<u8>, ListWord>(alloc, rest)? else {
+        return Ok(None);
+    };
+    let Some((number, rest)) = optional_at::<u64, Number64>(alloc, rest, &[b"seq"])? else {
+        return Ok(None);
+    };
+    match range_or_in(rest) {
         None => Ok(None),
-        Some(rest) => named_prefix_in(alloc, rest),
+        Some(entry) => Ok(Some(prefix_form(list, number, entry))),
     }
 }
 
-// ---- community lists
+// ---- other entries
 
-fn only_shape(words: &[Word]) -> Option<Rect>
-    ensures { result ≡ only shape_in (texts words.now) }
+// Behind the keys the name of a list and `permit` or `deny`, and the words behind them.
+fn head_in<'a, L: Reads<Row<u8>>>(
+    alloc: Global,
+    words: &'a [Word],
+    keys: &[&[u8]],
+) -> Result<Option<(Row<u8>, bool, &'a [Word])>, Memory>
+    ensures { IfOk result (λ o. option_map (λ h. (h.0, h.1, texts h.2.now)) o ≡ head_in (map (λ k. k.now) keys.now) L.find (texts words.now)) }
 {
-    match words {
-        [word] => shape_in(word),
-        _ => None,
-    }
-}
-
-fn expanded_in(words: &[Word]) -> Option<CommunityShape>
-    ensures { result ≡ community_shape_in true (texts words.now) }
-{
-    Some(CommunityShape::Expanded(only_shape(words)?))
-}
-
-fn standard_in(alloc: Global, words: &[Word]) -> Result<Option<CommunityShape>, Memory>
-    ensures { IfOk result (λ o. o ≡ community_shape_in false (texts words.now)) }
-{
-    let Some(communities) = communities(alloc, words)? else {
+    let Some(rest) = after(words, keys) else {
         return Ok(None);
     };
-    Ok(Some(CommunityShape::Standard(communities)))
+    let Some((list, rest)) = value_at::<Row<u8>, L>(alloc, rest)? else {
+        return Ok(None);
+    };
+    let Some((permit, rest)) = value_at::<bool, ActionWord>(alloc, rest)? else {
+        return Ok(None);
+    };
+    Ok(Some((list, permit, rest)))
 }
 
-// A standard list's communities, an expanded list's pattern.
-fn community_shape_in(
+// An entry of a standard list whose name stands behind the keys.
+#[tactic(auto, unfolding(crate::specs::Forms::standard_in))]
+fn standard_in<L: Reads<Row<u8>>>(
     alloc: Global,
-    expanded: bool,
     words: &[Word],
-) -> Result<Option<CommunityShape>, Memory>
-    ensures { IfOk result (λ o. o ≡ community_shape_in expanded (texts words.now)) }
-{
-    if expanded {
-        return Ok(expanded_in(words));
-    }
-    standard_in(alloc, words)
-}
-
-// `permit|deny` and what an entry asks for.
-fn community_entry_in(
-    alloc: Global,
-    list: &[u8],
-    expanded: bool,
-    words: &[Word],
+    keys: &[&[u8]],
 ) -> Result<Option<IosForm>, Memory>
-    ensures { IfOk result (λ o. o ≡ community_entry_in list.now expanded (texts words.now)) }
+    ensures { IfOk result (λ o. o ≡ standard_in (map (λ k. k.now) keys.now) L.find (texts words.now)) }
 {
-    let [action, rest @ ..] = words else {
+    let Some((list, permit, rest)) = head_in::<L>(alloc, words, keys)? else {
         return Ok(None);
     };
-    let Some(permit) = permit_in(action) else {
+    let Some(communities) = some_words::<Community, CommunityWord>(alloc, rest)? else {
         return Ok(None);
     };
-    let Some(shape) = community_shape_in(alloc, expanded, rest)? else {
-        return Ok(None);
-    };
+    let shape = CommunityShape::Standard(communities);
     Ok(Some(IosForm::CommunityEntry(CommunityListEntry {
-        list: copied(alloc, list)?,
+        list,
         permit,
         shape,
     })))
 }
 
-// An entry of a list that a number names: a standard one from 1 to 99, an expanded one from 100 to 500.
-fn numbered_community_in(
+// An entry of an expanded list whose name stands behind the keys.
+#[tactic(auto, unfolding(crate::specs::Forms::expanded_in))]
+fn expanded_in<L: Reads<Row<u8>>>(
     alloc: Global,
-    name: &Word,
     words: &[Word],
+    keys: &[&[u8]],
 ) -> Result<Option<IosForm>, Memory>
-    ensures { IfOk result (λ o. o ≡ numbered_community_in name.now.text (texts words.now)) }
+    ensures { IfOk result (λ o. o ≡ expanded_in (map (λ k. k.now) keys.now) L.find (texts words.now)) }
 {
-    let name = name.text.as_slice();
-    let Some(number) = read_number(name, 500) else {
+    let Some((list, permit, rest)) = head_in::<L>(alloc, words, keys)? else {
         return Ok(None);
     };
-    if 1 <= number {
-        return community_entry_in(alloc, name, 100 <= number, words);
-    }
-    Ok(None)
-}
-
-// An entry of a list that a word names behind `standard` or `expanded`.
-fn named_community_in(
-    alloc: Global,
-    expanded: bool,
-    words: &[Word],
-) -> Result<Option<IosForm>, Memory>
-    ensures { IfOk result (λ o. o ≡ named_community_in expanded (texts words.now)) }
-{
-    let [name, rest @ ..] = words else {
+    let Some(rect) = one_word::<Rect, ShapeWord>(alloc, rest)? else {
         return Ok(None);
     };
-    match list_in(name) {
-        None => Ok(None),
-        Some(list) => community_entry_in(alloc, list, expanded, rest),
-    }
-}
-
-fn listed_community_in(alloc: Global, words: &[Word]) -> Result<Option<IosForm>, Memory>
-    ensures { IfOk result (λ o. o ≡ listed_community_in (texts words.now)) }
-{
-    let [first, rest @ ..] = words else {
-        return Ok(None);
-    };
-    if is(first, b"standard") {
-        return named_community_in(alloc, false, rest);
-    }
-    if is(first, b"expanded") {
-        return named_community_in(alloc, true, rest);
-    }
-    numbered_community_in(alloc, first, rest)
+    let shape = CommunityShape::Expanded(rect);
+    Ok(Some(IosForm::CommunityEntry(CommunityListEntry {
+        list,
+        permit,
+        shape,
+    })))
 }
 
 // `ip community-list n|standard N permit|deny C..`, `ip community-list n|expanded N permit|deny X`
@@ -246,18 +180,38 @@ fn listed_community_in(alloc: Global, words: &[Word]) -> Result<Option<IosForm>,
 pub(crate) fn community_list_in(alloc: Global, words: &[Word]) -> Result<Option<IosForm>, Memory>
     ensures { IfOk result (λ o. o ≡ community_list_in (texts words.now)) }
 {
-    match after(words, &[b"ip", b"community-list"]) {
-        None => Ok(None),
-        Some(rest) => listed_community_in(alloc, rest),
+    let keys: &[&[u8]] = &[b"ip", b"community-list", b"standard"];
+    if let Some(entry) = standard_in::<ListWord>(alloc, words, keys)? {
+        return Ok(Some(entry));
     }
+    let keys: &[&[u8]] = &[b"ip", b"community-list", b"expanded"];
+    if let Some(entry) = expanded_in::<ListWord>(alloc, words, keys)? {
+        return Ok(Some(entry));
+    }
+    let keys: &[&[u8]] = &[b"ip", b"community-list"];
+    if let Some(entry) = standard_in::<StandardNumber>(alloc, words, keys)? {
+        return Ok(Some(entry));
+    }
+    expanded_in::<ExpandedNumber>(alloc, words, keys)
 }
 
-// ---- route-maps
-
-fn is_route_map(key: &Word, name: &Word) -> bool
-    ensures { result ≡ (bytes_eq key.now.text (codes "route-map") && is_name name.now.text) }
+// `ip as-path access-list n permit|deny X`
+#[tactic(auto, unfolding(crate::specs::Forms::path_entry_in))]
+pub(crate) fn path_entry_in(alloc: Global, words: &[Word]) -> Result<Option<IosForm>, Memory>
+    ensures { IfOk result (λ o. o ≡ path_entry_in (texts words.now)) }
 {
-    is(key, b"route-map") && is_name(name.text.as_slice())
+    let keys: &[&[u8]] = &[b"ip", b"as-path", b"access-list"];
+    let Some((list, permit, rest)) = head_in::<PathNumber>(alloc, words, keys)? else {
+        return Ok(None);
+    };
+    let Some(pattern) = one_word::<IosPattern, PatternWord>(alloc, rest)? else {
+        return Ok(None);
+    };
+    Ok(Some(IosForm::PathEntry(PathListEntry {
+        list,
+        permit,
+        pattern,
+    })))
 }
 
 // `route-map N permit|deny S`
@@ -265,20 +219,14 @@ fn is_route_map(key: &Word, name: &Word) -> bool
 pub(crate) fn map_header_in(alloc: Global, words: &[Word]) -> Result<Option<IosForm>, Memory>
     ensures { IfOk result (λ o. o ≡ map_header_in (texts words.now)) }
 {
-    let [route_map, name, action, number] = words else {
+    let Some((map, permit, rest)) = head_in::<NameWord>(alloc, words, &[b"route-map"])? else {
         return Ok(None);
     };
-    let Some(permit) = permit_in(action) else {
+    let Some(number) = one_word::<u64, Number64>(alloc, rest)? else {
         return Ok(None);
     };
-    let Some(number) = read_number(number.text.as_slice(), u64::MAX) else {
-        return Ok(None);
-    };
-    if !is_route_map(route_map, name) {
-        return Ok(None);
-    }
     Ok(Some(IosForm::MapHeader(MapHeader {
-        map: copied(alloc, name.text.as_slice())?,
+        map,
         permit,
         number,
     })))

@@ -136,11 +136,6 @@ pub(crate) fn numbered<'a>(
             Some(list) => numbered_entry(greatest, entry, list),
             None => Ok(IosForm::PrefixEntry(entry)),
         },
-        IosForm::PrefixDescription(description) => Ok(IosForm::PrefixDescription(description)),
-        IosForm::CommunityEntry(entry) => Ok(IosForm::CommunityEntry(entry)),
-        IosForm::PathEntry(entry) => Ok(IosForm::PathEntry(entry)),
-        IosForm::MapHeader(header) => Ok(IosForm::MapHeader(header)),
-        IosForm::Line(line) => Ok(IosForm::Line(line)),
-        IosForm::Other(other) => Ok(IosForm::Other(other)),
+        other => Ok(other),
     }
 }

@@ -2,6 +2,8 @@ ghost use Rattle.std.specs.Prelude.{◌≡◌, ◌++◌, ℕ, List, [], ◌∷�
 ghost use Rattle.policy_text.specs.Phrases.{texts};
 ghost use Rattle.text_words.specs.declared.statement.Statement.{Statement};
 ghost use Rattle.ios_tree.specs.Numbering.{greatest_of, numbered_by, Tells};
+ghost use Rattle.text_words.specs.IosCut.{ios_cut};
+ghost use Rattle.ios_tree.specs.Reading.{Reads};
 ghost use Rattle.ios_tree.specs.Spans.{SpansRise};
 ghost use Rattle.ios_tree.specs.Tree.{form_of, greatest_with, opens, belongs, items_of, numbered_from, ios_tree};
 ghost use Rattle.ios_tree.specs.declared.item.IosItem.{IosItem};
@@ -117,10 +119,12 @@ fn tree_of(alloc: Global, text: &[u8]) -> Result<IosTree, Memory>
 /// bytes from 0. A policy statement of no known form is an item `Other`; a statement that belongs to no
 /// policy is dropped. A prefix list entry without `seq` gets 5 more than the greatest number that its
 /// list has so far. Every text has a tree; the error is want of memory.
-#[tactic(auto, using(crate::proofs::Rise::read_rises))]
+#[tactic(auto, using(crate::proofs::Reading::Readings::read_reads, crate::proofs::Reading::Rise::read_rises))]
 pub fn read_ios(alloc: Global, text: &[u8]) -> Result<IosTree, Memory>
     // The tree is the one that the text reads as.
     ensures tree { IfOk result (λ t. t ≡ ios_tree text.now) }
+    // Its statements read as the tree, one by one.
+    ensures reads { IfOk result (λ t. Reads (ios_cut text.now) t) }
     // The spans rise, and lie within the text.
     ensures spans { IfOk result (λ t. SpansRise (length text.now) t) }
 {

@@ -1,14 +1,16 @@
-//! The words that are no plain numbers, prefixes or addresses: list names, communities and shapes.
+//! The kinds of words that IOS has: names of lists, actions, origins, communities, shapes and patterns.
 
-ghost use Rattle.std.specs.Prelude.{◌≡◌, ◌≤◌, [], IfOk, IfSome, bytes_eq, map, option_map};
+ghost use Rattle.std.specs.Prelude.{◌≡◌, ◌≤◌, ◌-◌, ◌^◌, IfOk, IfSome};
 ghost use Rattle.std.specs.List.{list_all};
-ghost use Rattle.policy_text.specs.Phrases.{texts, each, each_onto, some_each};
+ghost use Rattle.policy_text.specs.Phrases.{texts, one_of};
 ghost use Rattle.route_types.specs.Words.{is_digit, number_in};
+ghost use Rattle.aspath_text.specs.IosRead.{ios_pattern_in};
 ghost use Rattle.ios_tree.specs.Forms.{option_in};
-ghost use Rattle.ios_tree.specs.Names.{without_zeros, list_name, list_in, path_list_in, permit_in, known_community, whole_community, community_word_in, half_in, shape_in};
+ghost use Rattle.ios_tree.specs.Names.{without_zeros, list_name, list_in, numbered_list_in, permit_in, origin_in, known_communities, whole_community, community_word_in, half_in, shape_in};
 
-use policy_text::{Word, copied, is, is_name, parts_at, read_community, read_number};
-use route_types::{Community, Memory, Rect, Row};
+use aspath_text::{IosPattern, PatternFault, read_ios_pattern};
+use policy_text::{Reads, Word, copied, is, is_name, parts_at, read_community, read_number};
+use route_types::{Community, Memory, Origin, Rect, Row};
 use std::alloc::Global;
 
 // ---- names of lists
@@ -40,145 +42,153 @@ pub(crate) fn list_name(word: &[u8]) -> &[u8]
     }
 }
 
-// The list that a word names.
-pub(crate) fn list_in(word: &Word) -> Option<&[u8]>
-    ensures { option_map (λ n. n.now) result ≡ list_in word.now.text }
-{
-    let text = word.text.as_slice();
-    if !is_name(text) {
-        return None;
-    }
-    Some(list_name(text))
-}
+/// The name of a list.
+pub(crate) struct ListWord;
 
-#[tactic(auto, unfolding(policy_text::specs::Phrases::each_onto))]
-fn each_list(alloc: Global, words: &[Word]) -> Result<Option<Row<Row<u8>>>, Memory>
-    ensures { IfOk result (λ o. o ≡ each_onto list_in [] (texts words.now)) }
-{
-    let mut found = Row::new(alloc);
-    let mut rest = words;
-    while let [first, tail @ ..] = rest {
-        let Some(list) = list_in(first) else {
+impl Reads<Row<u8>> for ListWord {
+    ghost find = { list_in };
+
+    #[tactic(auto, unfolding(crate::specs::Names::list_in))]
+    fn read(alloc: Global, word: &[u8]) -> Result<Option<Row<u8>>, Memory> {
+        if !is_name(word) {
             return Ok(None);
-        };
-        found.push(copied(alloc, list)?)?;
-        rest = tail;
-    }
-    Ok(Some(found))
-}
-
-#[tactic(auto, using(policy_text::proofs::Phrases::each_by_walk))]
-fn all_lists(alloc: Global, words: &[Word]) -> Result<Option<Row<Row<u8>>>, Memory>
-    ensures { IfOk result (λ o. o ≡ each list_in (texts words.now)) }
-{
-    each_list(alloc, words)
-}
-
-// The lists that the words name; `None` where there is no word, or where a word is no name.
-pub(crate) fn lists(alloc: Global, words: &[Word]) -> Result<Option<Row<Row<u8>>>, Memory>
-    ensures { IfOk result (λ o. o ≡ some_each list_in (texts words.now)) }
-{
-    match words {
-        [] => Ok(None),
-        _ => all_lists(alloc, words),
+        }
+        Ok(Some(copied(alloc, list_name(word))?))
     }
 }
 
-// ---- names of path lists
-
-// The path list that a word names: a number from 1 on, which is its name.
-pub(crate) fn path_list_in(word: &Word) -> Option<&[u8]>
-    ensures { option_map (λ n. n.now) result ≡ path_list_in word.now.text }
+// A number from `least` to `most` names a list by its text.
+#[tactic(auto, unfolding(crate::specs::Names::numbered_list_in))]
+fn numbered_list(
+    alloc: Global,
+    word: &[u8],
+    least: u64,
+    most: u64,
+) -> Result<Option<Row<u8>>, Memory>
+    ensures { IfOk result (λ o. o ≡ numbered_list_in least most word.now) }
 {
-    let text = word.text.as_slice();
-    let number = read_number(text, u64::MAX)?;
-    if 1 <= number { Some(text) } else { None }
-}
-
-#[tactic(auto, unfolding(policy_text::specs::Phrases::each_onto))]
-fn each_path_list(alloc: Global, words: &[Word]) -> Result<Option<Row<Row<u8>>>, Memory>
-    ensures { IfOk result (λ o. o ≡ each_onto path_list_in [] (texts words.now)) }
-{
-    let mut found = Row::new(alloc);
-    let mut rest = words;
-    while let [first, tail @ ..] = rest {
-        let Some(list) = path_list_in(first) else {
-            return Ok(None);
-        };
-        found.push(copied(alloc, list)?)?;
-        rest = tail;
+    let Some(number) = read_number(word, most) else {
+        return Ok(None);
+    };
+    if number < least {
+        return Ok(None);
     }
-    Ok(Some(found))
+    Ok(Some(copied(alloc, word)?))
 }
 
-#[tactic(auto, using(policy_text::proofs::Phrases::each_by_walk))]
-fn all_path_lists(alloc: Global, words: &[Word]) -> Result<Option<Row<Row<u8>>>, Memory>
-    ensures { IfOk result (λ o. o ≡ each path_list_in (texts words.now)) }
-{
-    each_path_list(alloc, words)
-}
+/// The number of a standard community list, 1 to 99.
+pub(crate) struct StandardNumber;
 
-// The path lists that the words name; `None` where there is no word, or where a word is no such number.
-pub(crate) fn path_lists(alloc: Global, words: &[Word]) -> Result<Option<Row<Row<u8>>>, Memory>
-    ensures { IfOk result (λ o. o ≡ some_each path_list_in (texts words.now)) }
-{
-    match words {
-        [] => Ok(None),
-        _ => all_path_lists(alloc, words),
+impl Reads<Row<u8>> for StandardNumber {
+    ghost find = { numbered_list_in 1 99 };
+
+    fn read(alloc: Global, word: &[u8]) -> Result<Option<Row<u8>>, Memory> {
+        numbered_list(alloc, word, 1, 99)
     }
 }
 
-// ---- what an entry does
+/// The number of an expanded community list, 100 to 500.
+pub(crate) struct ExpandedNumber;
 
-// `permit` or `deny`.
-pub(crate) fn permit_in(word: &Word) -> Option<bool>
-    ensures { result ≡ permit_in word.now.text }
+impl Reads<Row<u8>> for ExpandedNumber {
+    ghost find = { numbered_list_in 100 500 };
+
+    fn read(alloc: Global, word: &[u8]) -> Result<Option<Row<u8>>, Memory> {
+        numbered_list(alloc, word, 100, 500)
+    }
+}
+
+/// The number of a path list, 1 to 2^64 - 1.
+pub(crate) struct PathNumber;
+
+impl Reads<Row<u8>> for PathNumber {
+    ghost find = { numbered_list_in 1 (2 ^ 64 - 1) };
+
+    fn read(alloc: Global, word: &[u8]) -> Result<Option<Row<u8>>, Memory> {
+        numbered_list(alloc, word, 1, u64::MAX)
+    }
+}
+
+// ---- words of a table
+
+/// `permit` or `deny`: whether an entry permits.
+pub(crate) struct ActionWord;
+
+#[tactic(auto, unfolding(crate::specs::Names::permit_in))]
+pub(crate) fn permit_in(word: &[u8]) -> Option<bool>
+    ensures { result ≡ permit_in word.now }
 {
-    if is(word, b"permit") {
+    if word == b"permit".as_slice() {
         return Some(true);
     }
-    if is(word, b"deny") {
+    if word == b"deny".as_slice() {
         return Some(false);
     }
     None
 }
 
+impl Reads<bool> for ActionWord {
+    ghost find = { permit_in };
+
+    fn read(_alloc: Global, word: &[u8]) -> Result<Option<bool>, Memory> {
+        Ok(permit_in(word))
+    }
+}
+
+/// `igp` or `incomplete`.
+pub(crate) struct OriginWord;
+
+impl Reads<Origin> for OriginWord {
+    ghost find = { origin_in };
+
+    #[tactic(auto, unfolding(crate::specs::Names::origin_in))]
+    fn read(_alloc: Global, word: &[u8]) -> Result<Option<Origin>, Memory> {
+        if word == b"igp".as_slice() {
+            return Ok(Some(Origin::Igp));
+        }
+        if word == b"incomplete".as_slice() {
+            return Ok(Some(Origin::Incomplete));
+        }
+        Ok(None)
+    }
+}
+
 // ---- communities
 
-fn known_community(word: &Word) -> Option<Community>
-    ensures { result ≡ known_community word.now.text }
+fn known_community(word: &[u8]) -> Option<Community>
+    ensures { result ≡ one_of known_communities word.now }
 {
-    if is(word, b"no-export") {
+    if word == b"no-export".as_slice() {
         return Some(Community(4294967041));
     }
-    if is(word, b"no-advertise") {
+    if word == b"no-advertise".as_slice() {
         return Some(Community(4294967042));
     }
-    if is(word, b"local-AS") {
+    if word == b"local-AS".as_slice() {
         return Some(Community(4294967043));
     }
     None
 }
 
 #[tactic(auto, using(route_types::proofs::Numbers::number_in_within))]
-fn bits_in(word: &Word) -> Option<u32>
-    ensures { result ≡ number_in 4294967295 word.now.text }
+fn bits_in(word: &[u8]) -> Option<u32>
+    ensures { result ≡ number_in (2 ^ 32 - 1) word.now }
 {
-    let bits = read_number(word.text.as_slice(), 4294967295)?;
+    let bits = read_number(word, 4294967295)?;
     Some(bits as u32)
 }
 
-fn whole_community(word: &Word) -> Option<Community>
-    ensures { result ≡ whole_community word.now.text }
+fn whole_community(word: &[u8]) -> Option<Community>
+    ensures { result ≡ whole_community word.now }
 {
     Some(Community(bits_in(word)?))
 }
 
-// The community that a word spells: `a:b`, a word of its own, or one number.
-fn community_in(word: &Word) -> Option<Community>
-    ensures { result ≡ community_word_in word.now.text }
+#[tactic(auto, unfolding(crate::specs::Names::community_word_in))]
+fn community_in(word: &[u8]) -> Option<Community>
+    ensures { result ≡ community_word_in word.now }
 {
-    if let Some(community) = read_community(word.text.as_slice()) {
+    if let Some(community) = read_community(word) {
         return Some(community);
     }
     if let Some(community) = known_community(word) {
@@ -187,40 +197,18 @@ fn community_in(word: &Word) -> Option<Community>
     whole_community(word)
 }
 
-#[tactic(auto, unfolding(policy_text::specs::Phrases::each_onto))]
-fn each_community(alloc: Global, words: &[Word]) -> Result<Option<Row<Community>>, Memory>
-    ensures { IfOk result (λ o. o ≡ each_onto community_word_in [] (texts words.now)) }
-{
-    let mut found = Row::new(alloc);
-    let mut rest = words;
-    while let [first, tail @ ..] = rest {
-        let Some(community) = community_in(first) else {
-            return Ok(None);
-        };
-        found.push(community)?;
-        rest = tail;
-    }
-    Ok(Some(found))
-}
+/// A community: `a:b`, a word of its own, or one number.
+pub(crate) struct CommunityWord;
 
-#[tactic(auto, using(policy_text::proofs::Phrases::each_by_walk))]
-fn all_communities(alloc: Global, words: &[Word]) -> Result<Option<Row<Community>>, Memory>
-    ensures { IfOk result (λ o. o ≡ each community_word_in (texts words.now)) }
-{
-    each_community(alloc, words)
-}
+impl Reads<Community> for CommunityWord {
+    ghost find = { community_word_in };
 
-// The communities that the words spell; `None` where there is no word, or where a word spells none.
-pub(crate) fn communities(alloc: Global, words: &[Word]) -> Result<Option<Row<Community>>, Memory>
-    ensures { IfOk result (λ o. o ≡ some_each community_word_in (texts words.now)) }
-{
-    match words {
-        [] => Ok(None),
-        _ => all_communities(alloc, words),
+    fn read(_alloc: Global, word: &[u8]) -> Result<Option<Community>, Memory> {
+        Ok(community_in(word))
     }
 }
 
-// ---- shapes
+// ---- shapes and patterns
 
 #[tactic(auto, using(route_types::proofs::Numbers::number_in_within))]
 fn number_in(word: &[u8]) -> Option<u16>
@@ -244,12 +232,11 @@ fn half_in(word: &[u8]) -> Option<(u16, u16)>
     None
 }
 
-// The communities that an expanded entry asks for: `_`, two halves joined by `:`, `_`.
 #[tactic(auto, unfolding(crate::specs::Names::shape_in))]
-pub(crate) fn shape_in(word: &Word) -> Option<Rect>
-    ensures { result ≡ shape_in word.now.text }
+fn shape_in(word: &[u8]) -> Option<Rect>
+    ensures { result ≡ shape_in word.now }
 {
-    let (front, rest) = parts_at(word.text.as_slice(), b'_')?;
+    let (front, rest) = parts_at(word, b'_')?;
     let (middle, back) = parts_at(rest, b'_')?;
     let (high, low) = parts_at(middle, b':')?;
     let (high_least, high_most) = half_in(high)?;
@@ -258,6 +245,32 @@ pub(crate) fn shape_in(word: &Word) -> Option<Rect>
         return None;
     }
     Some(Rect::new(high_least, high_most, low_least, low_most))
+}
+
+/// The pattern of an expanded community list: `_`, two halves joined by `:`, `_`.
+pub(crate) struct ShapeWord;
+
+impl Reads<Rect> for ShapeWord {
+    ghost find = { shape_in };
+
+    fn read(_alloc: Global, word: &[u8]) -> Result<Option<Rect>, Memory> {
+        Ok(shape_in(word))
+    }
+}
+
+/// The pattern of a path list.
+pub(crate) struct PatternWord;
+
+impl Reads<IosPattern> for PatternWord {
+    ghost find = { ios_pattern_in };
+
+    fn read(alloc: Global, word: &[u8]) -> Result<Option<IosPattern>, Memory> {
+        match read_ios_pattern(alloc, word) {
+            Ok(pattern) => Ok(Some(pattern)),
+            Err(PatternFault::NotShaped) => Ok(None),
+            Err(PatternFault::Memory) => Err(Memory),
+        }
+    }
 }
 
 // ---- an option at the end

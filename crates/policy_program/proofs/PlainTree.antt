@@ -1,13 +1,16 @@
 -- What a text reads as is plain: its ranges can be spelled, a match line names IPv4 lists, and a local
 -- preference fits.
-use Rattle.std.proofs.Common.{◌≡◌, refl, ℕ, ◌+◌, ◌-◌, ◌^◌, Bool, true, false, List, [], ◌∷◌, ◌++◌, Option, Some, None, arith}
+use Rattle.std.proofs.Common.{◌≡◌, refl, ap, ℕ, ◌+◌, ◌-◌, ◌^◌, ◌≤◌, Bool, true, false, List, [], ◌∷◌, ◌++◌, Option, Some, None, arith}
 use Rattle.std.specs.Prelude.{IfSome, nat_le}
 use Rattle.std.specs.List.{AllByRecursion}
 use Rattle.text_words.specs.declared.statement.Statement.{Statement}
 use Rattle.text_words.specs.IosCut.{ios_cut}
 use Rattle.policy_text.specs.Names.{or_else}
 use Rattle.policy_text.specs.Phrases.{texts}
-use Rattle.policy_text.proofs.Phrases.{prefix_spelled}
+use Rattle.policy_text.proofs.Lengths.{spelled_short}
+use Rattle.policy_text.proofs.Values.{prefix_agrees}
+use Rattle.route_types.specs.Address.{PrefixParts}
+use Rattle.route_types.specs.Words.{IsPrefix}
 use Rattle.route_types.proofs.Printed.{prefix_in_plain}
 use Rattle.ios_tree.specs.Spelling.{SpellLine, Spell}
 use Rattle.ios_tree.specs.Tree.{known_form, name_under, form_of, sort_of, belongs, opens, items_of, family_of, greatest_number, entry_with_number, numbered, numbered_item, numbered_from, ios_tree}
@@ -19,21 +22,28 @@ use Rattle.ios_tree.specs.declared.item.MapLine.{MapLine}
 use Rattle.ios_tree.specs.declared.item.MapLine.TheVariants.{MatchPrefix, SetLocalPreference}
 use Rattle.ios_tree.specs.declared.item.PrefixListEntry.{PrefixListEntry}
 use Rattle.ios_tree.specs.declared.item.IosItem.{IosItem}
+use Rattle.ios_tree.proofs.Forms.Entries.{spelled_range}
 use Rattle.ios_tree.proofs.Spelled.{is_spelled}
 use Rattle.rpl_reader.specs.Written.{IsPlainRange}
 use Rattle.policy_program.specs.Plan.{IsPlainLine, IsPlainForm, HasPlainForm}
 
 line_plain : (words : List (List ℕ)) (line : MapLine) → SpellLine words line → IsPlainLine line
-line_plain words (MatchPrefix m) h = h.2
-line_plain words (SetLocalPreference n) h = omega (arith, h.1)
+line_plain words (MatchPrefix m) h = h.1
+line_plain words (SetLocalPreference n) h = omega (arith, h.2.2.within)
 line_plain words _ h = tt
+
+-- a prefix is no longer than 32 bits
+prefix_short : (word : List ℕ) (p : PrefixParts) → IsPrefix word p → p.length ≤ 32
+prefix_short word p h = let n : p.length ≡ h.length = ap (λ (q : PrefixParts). q.length) h.value in omega (arith, n, h.within)
 
 -- what words spell is plain
 form_plain : (words : List (List ℕ)) (form : IosForm) → Spell words form → IsPlainForm form
 form_plain words (PrefixEntry e) h =
     let prefix = e.entry.range.prefix in
-    let plain = prefix_in_plain h.prefix_word prefix (prefix_spelled h.prefix_word prefix h.prefix) in
-    record { family = plain.family; prefix = plain.masked; least = h.lengths.0; rises = h.lengths.1; most = h.lengths.2 }
+    let r = spelled_range words e.list h.seq e.entry h.words in
+    let short = prefix_short r.1.prefix_word prefix r.1.prefix in
+    let plain = prefix_in_plain r.1.prefix_word prefix (prefix_agrees.only r.1.prefix_word prefix r.1.prefix) in
+    record { family = plain.family; prefix = plain.masked; least = r.1.lengths.0; rises = r.1.lengths.1; most = spelled_short prefix.length r.1.bounds (e.entry.range.least, e.entry.range.most) short r.1.lengths }
 form_plain words (PrefixDescription d) h = tt
 form_plain words (CommunityEntry e) h = tt
 form_plain words (PathEntry e) h = tt

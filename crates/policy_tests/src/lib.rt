@@ -13,6 +13,8 @@ mod diagrams;
 #[cfg(test)]
 mod files;
 #[cfg(test)]
+mod junos_cut;
+#[cfg(test)]
 mod not_taken;
 #[cfg(test)]
 mod outside;
@@ -30,6 +32,8 @@ mod route_changes;
 mod route_texts;
 #[cfg(test)]
 mod routes;
+#[cfg(test)]
+mod rpl_cut;
 #[cfg(test)]
 mod runs;
 #[cfg(test)]

@@ -60,13 +60,15 @@ at_this name place ranges rest =
     ∙ ap (λ (t : Bool). elim t [ true ↦ elements_below (map Element ranges ++ (End ∷ rest)) | false ↦ set_elements (set_name name place) (map Element ranges ++ (End ∷ rest)) ]) (same_name (set_name name place))
     ∙ below_elements ranges rest
 
-at_other : (name set : List ℕ) (place : ℕ) (ranges : List RangeParts) (rest : List RplForm) → bytes_eq set (set_name name place) ≡ false → set_elements set (set_forms name place ranges ++ rest) ≡ set_elements set rest
+at_other : (name set : List ℕ) (place : ℕ) (ranges : List RangeParts) (rest : List RplForm) → bytes_eq set (set_name name place) ≡ false
+    → set_elements set (set_forms name place ranges ++ rest) ≡ set_elements set rest
 at_other name set place ranges rest h =
     ap (λ (fs : List RplForm). set_elements set fs) (set_again name place ranges rest)
     ∙ ap (λ (t : Bool). elim t [ true ↦ elements_below (map Element ranges ++ (End ∷ rest)) | false ↦ set_elements set (map Element ranges ++ (End ∷ rest)) ]) h
     ∙ elements_past set ranges rest
 
-elements_at : (name : List ℕ) (from : ℕ) (sets : List (List RangeParts)) (rest : List RplForm) (place : ℕ) → place < length sets → from + length sets < 2 ^ 63 → set_elements (set_name name (from + place)) (sets_forms name from sets ++ rest) ≡ unwrap_or (slice_get sets place) []
+elements_at : (name : List ℕ) (from : ℕ) (sets : List (List RangeParts)) (rest : List RplForm) (place : ℕ) → place < length sets → from + length sets < 2 ^ 63
+    → set_elements (set_name name (from + place)) (sets_forms name from sets ++ rest) ≡ unwrap_or (slice_get sets place) []
 unfolding sets_forms
 elements_at name from [] rest place h few = absurd (omega arith)
 elements_at name from (ranges ∷ sets) rest zero h few =
@@ -81,7 +83,8 @@ elements_at name from (ranges ∷ sets) rest (suc place) h few =
     ∙ at_other name (set_name name (from + 1 + place)) from ranges (sets_forms name (from + 1) sets ++ rest) (set_names_apart name (from + 1 + place) from (omega arith) (omega arith) (λ k. omega arith))
     ∙ elements_at name (from + 1) sets rest place (omega arith) (omega arith)
 
-pub written_elements : (name : List ℕ) (sets : List (List RangeParts)) (steps : List Step) (place : ℕ) → place < length sets → length sets < 2 ^ 63 → set_elements (set_name name place) (policy_forms name sets steps) ≡ unwrap_or (slice_get sets place) []
+pub written_elements : (name : List ℕ) (sets : List (List RangeParts)) (steps : List Step) (place : ℕ) → place < length sets → length sets < 2 ^ 63
+    → set_elements (set_name name place) (policy_forms name sets steps) ≡ unwrap_or (slice_get sets place) []
 unfolding policy_forms
 written_elements name sets steps place h few =
     let e : place ≡ 0 + place = omega arith in
@@ -91,7 +94,8 @@ written_elements name sets steps place h few =
 -- ---- how the steps run
 
 module _ (all : List RplForm) (r : RouteParts) where
-  verdict_runs : (accept : Bool) (ns : List ℕ) (ticket : Bool) (q : RouteParts) (rest : List RplForm) → run all r 0 ticket q (map SetLocalPreference ns ++ (verdict_form accept ∷ rest)) ≡ elim accept [ true ↦ Accept (changed_by (map LocalPreference ns) q) | false ↦ Reject ]
+  verdict_runs : (accept : Bool) (ns : List ℕ) (ticket : Bool) (q : RouteParts) (rest : List RplForm)
+      → run all r 0 ticket q (map SetLocalPreference ns ++ (verdict_form accept ∷ rest)) ≡ elim accept [ true ↦ Accept (changed_by (map LocalPreference ns) q) | false ↦ Reject ]
   unfolding run
   verdict_runs true [] ticket q rest = refl
   verdict_runs false [] ticket q rest = refl
@@ -103,7 +107,8 @@ module _ (all : List RplForm) (r : RouteParts) where
       ap (λ (fs : List RplForm). run all r 0 false q fs) (append_assoc (map SetLocalPreference s.preferences) (verdict_form s.accept ∷ []) rest)
       ∙ verdict_runs s.accept s.preferences false q rest
 
-  verdict_passed : (accept : Bool) (ns : List ℕ) (ticket : Bool) (q : RouteParts) (rest : List RplForm) → run all r 1 ticket q (map SetLocalPreference ns ++ (verdict_form accept ∷ rest)) ≡ run all r 1 ticket q rest
+  verdict_passed : (accept : Bool) (ns : List ℕ) (ticket : Bool) (q : RouteParts) (rest : List RplForm)
+      → run all r 1 ticket q (map SetLocalPreference ns ++ (verdict_form accept ∷ rest)) ≡ run all r 1 ticket q rest
   unfolding run
   verdict_passed true [] ticket q rest = refl
   verdict_passed false [] ticket q rest = refl
@@ -115,13 +120,16 @@ module _ (all : List RplForm) (r : RouteParts) where
       ap (λ (fs : List RplForm). run all r 1 false q fs) (append_assoc (map SetLocalPreference s.preferences) (verdict_form s.accept ∷ []) rest)
       ∙ verdict_passed s.accept s.preferences false q rest
 
-  guarded_runs : (holds : Bool) (s : Step) (rest : List RplForm) (o : Outcome) → run all r 0 false r rest ≡ o → run all r (passed_over holds) false r (actions_forms s ++ (EndIf ∷ rest)) ≡ elim holds [ true ↦ step_outcome r s | false ↦ o ]
+  guarded_runs : (holds : Bool) (s : Step) (rest : List RplForm) (o : Outcome) → run all r 0 false r rest ≡ o
+      → run all r (passed_over holds) false r (actions_forms s ++ (EndIf ∷ rest)) ≡ elim holds [ true ↦ step_outcome r s | false ↦ o ]
   unfolding run
   guarded_runs true s rest o h = actions_run s r (EndIf ∷ rest)
   guarded_runs false s rest o h = actions_passed s r (EndIf ∷ rest) ∙ h
 
 module _ (name : List ℕ) (all : List RplForm) (sets : List (List RangeParts)) (r : RouteParts) where
-  step_runs : (guard : Option ℕ) (s : Step) (ss : List Step) → ((place : ℕ) → place < length sets → set_elements (set_name name place) all ≡ unwrap_or (slice_get sets place) []) → IsPlainStep (length sets) s → s.guard ≡ guard → run all r 0 false r (steps_forms name ss ++ (End ∷ [])) ≡ steps_outcome sets r ss → run all r 0 false r (steps_forms name (s ∷ ss) ++ (End ∷ [])) ≡ steps_outcome sets r (s ∷ ss)
+  step_runs : (guard : Option ℕ) (s : Step) (ss : List Step) → ((place : ℕ) → place < length sets → set_elements (set_name name place) all ≡ unwrap_or (slice_get sets place) [])
+      → IsPlainStep (length sets) s → s.guard ≡ guard → run all r 0 false r (steps_forms name ss ++ (End ∷ [])) ≡ steps_outcome sets r ss
+      → run all r 0 false r (steps_forms name (s ∷ ss) ++ (End ∷ [])) ≡ steps_outcome sets r (s ∷ ss)
   unfolding run steps_forms steps_outcome
   step_runs None s ss found h e more = rw e (actions_run all r s r (End ∷ []))
   step_runs (Some place) s ss found h e more =
@@ -131,13 +139,15 @@ module _ (name : List ℕ) (all : List RplForm) (sets : List (List RangeParts)) 
       ∙ ap (λ (fs : List RplForm). run all r (passed_over (guard_holds sets r (Some place))) false r fs) (append_assoc (actions_forms s) (EndIf ∷ steps_forms name ss) (End ∷ []))
       ∙ guarded_runs all r (guard_holds sets r (Some place)) s rest (steps_outcome sets r ss) more)
 
-  steps_run : (ss : List Step) → ((place : ℕ) → place < length sets → set_elements (set_name name place) all ≡ unwrap_or (slice_get sets place) []) → AllByRecursion (IsPlainStep (length sets)) ss → run all r 0 false r (steps_forms name ss ++ (End ∷ [])) ≡ steps_outcome sets r ss
+  steps_run : (ss : List Step) → ((place : ℕ) → place < length sets → set_elements (set_name name place) all ≡ unwrap_or (slice_get sets place) []) → AllByRecursion (IsPlainStep (length sets)) ss
+      → run all r 0 false r (steps_forms name ss ++ (End ∷ [])) ≡ steps_outcome sets r ss
   unfolding run steps_forms steps_outcome
   steps_run [] found h = refl
   steps_run (s ∷ ss) found h = step_runs s.guard s ss found h.0 refl (steps_run ss found h.1)
 
 -- the policy that is written means what its steps mean
-pub means_steps : (name : List ℕ) (sets : List (List RangeParts)) (steps : List Step) → IsWritable name sets steps → (r : RouteParts) → rpl_meaning (policy_forms name sets steps) name r ≡ steps_outcome sets r steps
+pub means_steps : (name : List ℕ) (sets : List (List RangeParts)) (steps : List Step) → IsWritable name sets steps → (r : RouteParts)
+    → rpl_meaning (policy_forms name sets steps) name r ≡ steps_outcome sets r steps
 unfolding rpl_meaning
 means_steps name sets steps h r =
     ap (λ (fs : List RplForm). run (policy_forms name sets steps) r 0 false r fs) (written_body name sets steps)

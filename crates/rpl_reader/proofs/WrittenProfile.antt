@@ -101,7 +101,9 @@ guarded_clean all before set s there none =
     clean_join all before (If (Destination set) ∷ actions_forms s) (EndIf ∷ [])
     (if_sound all before set there none, actions_clean all (before ++ (If (Destination set) ∷ [])) s) (refl, tt)
 
-step_clean : (guard : Option ℕ) (name : List ℕ) (sets : ℕ) (all before : List RplForm) (s : Step) (ss : List Step) → ((place : ℕ) → place < sets → list_any (heads_set (set_name name place)) all ≡ true) → IsPlainStep sets s → s.guard ≡ guard → open_ifs 0 before ≡ 0 → ((again : List RplForm) → open_ifs 0 again ≡ 0 → Clean all again (steps_forms name ss)) → Clean all before (steps_forms name (s ∷ ss))
+step_clean : (guard : Option ℕ) (name : List ℕ) (sets : ℕ) (all before : List RplForm) (s : Step) (ss : List Step)
+    → ((place : ℕ) → place < sets → list_any (heads_set (set_name name place)) all ≡ true) → IsPlainStep sets s → s.guard ≡ guard → open_ifs 0 before ≡ 0
+    → ((again : List RplForm) → open_ifs 0 again ≡ 0 → Clean all again (steps_forms name ss)) → Clean all before (steps_forms name (s ∷ ss))
 unfolding steps_forms
 step_clean None name sets all before s ss stand h e none more = rw e (actions_clean all before s)
 step_clean (Some place) name sets all before s ss stand h e none more =
@@ -112,7 +114,8 @@ step_clean (Some place) name sets all before s ss stand h e none more =
     let f : first ++ steps_forms name ss ≡ If (Destination own) ∷ (actions_forms s ++ (EndIf ∷ steps_forms name ss)) = ap (λ (xs : List RplForm). If (Destination own) ∷ xs) (append_assoc (actions_forms s) (EndIf ∷ []) (steps_forms name ss)) in
     rw e (subst (λ (fs : List RplForm). Clean all before fs) f (clean_join all before first (steps_forms name ss) (guarded_clean all before own s (stand place there) none) (more (before ++ first) after)))
 
-steps_clean : (name : List ℕ) (sets : ℕ) (all before : List RplForm) (ss : List Step) → ((place : ℕ) → place < sets → list_any (heads_set (set_name name place)) all ≡ true) → AllByRecursion (IsPlainStep sets) ss → open_ifs 0 before ≡ 0 → Clean all before (steps_forms name ss)
+steps_clean : (name : List ℕ) (sets : ℕ) (all before : List RplForm) (ss : List Step) → ((place : ℕ) → place < sets → list_any (heads_set (set_name name place)) all ≡ true)
+    → AllByRecursion (IsPlainStep sets) ss → open_ifs 0 before ≡ 0 → Clean all before (steps_forms name ss)
 unfolding steps_forms
 steps_clean name sets all before [] stand hs none = (refl, tt)
 steps_clean name sets all before (s ∷ ss) stand hs none =
@@ -150,7 +153,8 @@ set_apart name place other rs h small =
 abbrev NoneFrom : List ℕ → ℕ → List RplForm → Type 0
 NoneFrom name place before = (other : ℕ) → place ≤ other → other < 2 ^ 63 → list_any (heads_set (set_name name other)) before ≡ false
 
-sets_clean : (name : List ℕ) (place : ℕ) (sets : List (List RangeParts)) (all before : List RplForm) → place + length sets < 2 ^ 63 → NoneFrom name place before → Clean all before (sets_forms name place sets)
+sets_clean : (name : List ℕ) (place : ℕ) (sets : List (List RangeParts)) (all before : List RplForm) → place + length sets < 2 ^ 63 → NoneFrom name place before
+    → Clean all before (sets_forms name place sets)
 unfolding sets_forms
 sets_clean name place [] all before few none = tt
 sets_clean name place (rs ∷ sets) all before few none =
@@ -184,7 +188,8 @@ set_stands name from (rs ∷ sets) (suc place) h =
 
 -- ---- the whole
 
-pub written_stands : (name : List ℕ) (sets : List (List RangeParts)) (steps : List Step) (place : ℕ) → place < length sets → list_any (heads_set (set_name name place)) (policy_forms name sets steps) ≡ true
+pub written_stands : (name : List ℕ) (sets : List (List RangeParts)) (steps : List Step) (place : ℕ) → place < length sets
+    → list_any (heads_set (set_name name place)) (policy_forms name sets steps) ≡ true
 unfolding policy_forms
 written_stands name sets steps place h =
     let e : place ≡ 0 + place = omega arith in

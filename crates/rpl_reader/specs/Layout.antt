@@ -18,15 +18,19 @@ pub record Step : Type 0 where
 abbrev pub set_name : List ℕ → ℕ → List ℕ
 set_name name place = name ++ (codes "-p" ++ decimal (place + 1))
 
--- the lengths behind a prefix of length n, in the first form that fits
-abbrev pub lengths_text : ℕ → ℕ → ℕ → List ℕ
-lengths_text n least most = elim (least == most) [
-  | true ↦ elim (least == n) [ true ↦ [] | false ↦ codes " eq " ++ decimal least ]
-  | false ↦ elim (least == n) [
+-- the lengths by the three tests of their layout: there is one, it is that of the prefix, there is no end
+abbrev pub lengths_by : Bool → Bool → Bool → ℕ → ℕ → List ℕ
+lengths_by one full open_end least most = elim one [
+  | true ↦ elim full [ true ↦ [] | false ↦ codes " eq " ++ decimal least ]
+  | false ↦ elim full [
     | true ↦ codes " le " ++ decimal most
-    | false ↦ elim (most == 32) [ true ↦ codes " ge " ++ decimal least | false ↦ codes " ge " ++ (decimal least ++ (codes " le " ++ decimal most)) ]
+    | false ↦ elim open_end [ true ↦ codes " ge " ++ decimal least | false ↦ codes " ge " ++ (decimal least ++ (codes " le " ++ decimal most)) ]
   ]
 ]
+
+-- the lengths behind a prefix of length n, in the first form that fits
+abbrev pub lengths_text : ℕ → ℕ → ℕ → List ℕ
+lengths_text n least most = lengths_by (least == most) (least == n) (most == 32) least most
 
 -- a range as an element of a set
 unfoldable pub element_text : RangeParts → List ℕ

@@ -8,6 +8,7 @@ pub mod JunosLaw
 pub mod RplReach
 pub mod RplLexes
 pub mod RplWritten
+pub mod PlainWords
 mod RplExamples
 pub mod JunosRise
 mod JunosExamples

@@ -54,7 +54,8 @@ quote_sort text rest h = rw (quote_follows text rest h, sort_at) refl
 abbrev pub Stops : List ℕ → Type 0
 Stops rest = (b : Begun) (p : ℕ) → lexemes (Within b) p rest ≡ IsWord (word_to false b p) ∷ lexemes Behind p rest
 
-letters_on : (text : List ℕ) (b : Begun) (p : ℕ) (rest : List ℕ) → list_all is_letter text ≡ true → lexemes (Within b) p (text ++ rest) ≡ lexemes (Within (record { start = b.start; text = b.text ++ text })) (p + length text) rest
+letters_on : (text : List ℕ) (b : Begun) (p : ℕ) (rest : List ℕ) → list_all is_letter text ≡ true
+    → lexemes (Within b) p (text ++ rest) ≡ lexemes (Within (record { start = b.start; text = b.text ++ text })) (p + length text) rest
 unfolding lexemes
 letters_on [] b p rest h =
     let e : p ≡ p + 0 = omega arith in
@@ -81,7 +82,8 @@ mark_read : (p c : ℕ) (rest : List ℕ) → is_single c ≡ true → lexemes B
 unfolding lexemes
 mark_read p c rest h = ap (λ (s : ByteSort). given Behind p c s (lexemes (past Behind p c s) (p + 1) rest)) (mark_sort c rest h)
 
-quoted_on : (text : List ℕ) (b : Begun) (p : ℕ) (rest : List ℕ) → list_all is_quotable text ≡ true → lexemes (Quoted b) p (text ++ (39 ∷ rest)) ≡ IsWord (word_to true (record { start = b.start; text = b.text ++ text }) (p + length text + 1)) ∷ lexemes Behind (p + length text + 1) rest
+quoted_on : (text : List ℕ) (b : Begun) (p : ℕ) (rest : List ℕ) → list_all is_quotable text ≡ true
+    → lexemes (Quoted b) p (text ++ (39 ∷ rest)) ≡ IsWord (word_to true (record { start = b.start; text = b.text ++ text }) (p + length text + 1)) ∷ lexemes Behind (p + length text + 1) rest
 unfolding lexemes
 quoted_on [] b p rest h =
     let e : p + 1 ≡ p + 0 + 1 = omega arith in
@@ -93,7 +95,8 @@ quoted_on (c ∷ cs) b p rest h =
     rw (r.0, lexemes) (quoted_on cs (record { start = b.start; text = b.text ++ c ∷ [] }) (p + 1) rest q.1
     ∙ ap₂ (λ (t : List ℕ) (n : ℕ). IsWord (word_to true (record { start = b.start; text = t }) n) ∷ lexemes Behind n rest) (append_assoc b.text (c ∷ []) cs) e)
 
-quoted_read : (p : ℕ) (text rest : List ℕ) → list_all is_quotable text ≡ true → lexemes Behind p (39 ∷ (text ++ (39 ∷ rest))) ≡ IsWord (word_at p text true) ∷ lexemes Behind (p + (length text + 2)) rest
+quoted_read : (p : ℕ) (text rest : List ℕ) → list_all is_quotable text ≡ true
+    → lexemes Behind p (39 ∷ (text ++ (39 ∷ rest))) ≡ IsWord (word_at p text true) ∷ lexemes Behind (p + (length text + 2)) rest
 unfolding lexemes
 quoted_read p text rest h =
     let behind = text ++ (39 ∷ rest) in

@@ -25,18 +25,21 @@ use Rattle.text_words.proofs.RplLexes.{not_true, letter_sort, mark_sort, quote_s
 -- ---- a line is read as its words
 
 -- a byte of no blank and no dropped line is the same before the words of a line and behind one
-margin_byte : (p c : ℕ) (cs : List ℕ) (s : ByteSort) → is_remark c ≡ false → sort_at c cs ≡ s → given Margin p c s (lexemes (past Margin p c s) (p + 1) cs) ≡ given Behind p c s (lexemes (past Behind p c s) (p + 1) cs) → lexemes Margin p (c ∷ cs) ≡ lexemes Behind p (c ∷ cs)
+margin_byte : (p c : ℕ) (cs : List ℕ) (s : ByteSort) → is_remark c ≡ false → sort_at c cs ≡ s
+    → given Margin p c s (lexemes (past Margin p c s) (p + 1) cs) ≡ given Behind p c s (lexemes (past Behind p c s) (p + 1) cs) → lexemes Margin p (c ∷ cs) ≡ lexemes Behind p (c ∷ cs)
 unfolding lexemes
 margin_byte p c cs s none is same =
     rw (none, lexemes) (ap (λ (t : ByteSort). given Margin p c t (lexemes (past Margin p c t) (p + 1) cs)) is ∙ same ∙ sym (ap (λ (t : ByteSort). given Behind p c t (lexemes (past Behind p c t) (p + 1) cs)) is))
 
 -- a plain word or a mark at the start of a line, which is not dropped
-margin_bare : (p c : ℕ) (cs rest : List ℕ) (mark : Bool) → is_mark_text rpl_signs (c ∷ cs) ≡ mark → (mark || is_plain (c ∷ cs)) ≡ true → is_remark c ≡ false → lexemes Margin p (c ∷ (cs ++ rest)) ≡ lexemes Behind p (c ∷ (cs ++ rest))
+margin_bare : (p c : ℕ) (cs rest : List ℕ) (mark : Bool) → is_mark_text rpl_signs (c ∷ cs) ≡ mark → (mark || is_plain (c ∷ cs)) ≡ true → is_remark c ≡ false
+    → lexemes Margin p (c ∷ (cs ++ rest)) ≡ lexemes Behind p (c ∷ (cs ++ rest))
 margin_bare p c [] rest true is fits none = margin_byte p c rest _ none (mark_sort c rest is) refl
 margin_bare p c (d ∷ ds) rest true is fits none = absurd cc
 margin_bare p c cs rest false is fits none = margin_byte p c (cs ++ rest) _ none (letter_sort c (cs ++ rest) (and_parts (is_letter c) (list_all is_letter cs) fits).0) refl
 
-margin_word : (p : ℕ) (text : List ℕ) (quoted : Bool) (rest : List ℕ) → is_sign_word rpl_signs text quoted ≡ true → (quoted || not (starts_with_byte 33 text || starts_with_byte 35 text)) ≡ true → lexemes Margin p (word_then 39 text quoted rest) ≡ lexemes Behind p (word_then 39 text quoted rest)
+margin_word : (p : ℕ) (text : List ℕ) (quoted : Bool) (rest : List ℕ) → is_sign_word rpl_signs text quoted ≡ true → (quoted || not (starts_with_byte 33 text || starts_with_byte 35 text)) ≡ true
+    → lexemes Margin p (word_then 39 text quoted rest) ≡ lexemes Behind p (word_then 39 text quoted rest)
 margin_word p text true rest fits kept = margin_byte p 39 (text ++ (39 ∷ rest)) _ refl (quote_sort text rest fits) refl
 margin_word p [] false rest fits kept = absurd cc
 margin_word p (c ∷ cs) false rest fits kept = margin_bare p c cs rest (is_mark_text rpl_signs (c ∷ cs)) refl fits (not_true (is_remark c) kept)
@@ -47,7 +50,8 @@ margin_gap zero p text h = h p
 margin_gap (suc n) p text h = margin_gap n (p + 1) text h
 
 -- the words of a line that is kept, and the end of the line
-line_read : (p : ℕ) (xs : List Piece) (rest : List ℕ) → are_words rpl_signs xs ≡ true → is_kept xs ≡ true → lexemes Margin p (pieces_text 39 xs ++ (10 ∷ rest)) ≡ front onto (placed p xs) (EndsLine ∷ lexemes Margin (p + length (pieces_text 39 xs) + 1) rest)
+line_read : (p : ℕ) (xs : List Piece) (rest : List ℕ) → are_words rpl_signs xs ≡ true → is_kept xs ≡ true
+    → lexemes Margin p (pieces_text 39 xs ++ (10 ∷ rest)) ≡ front onto (placed p xs) (EndsLine ∷ lexemes Margin (p + length (pieces_text 39 xs) + 1) rest)
 unfolding pieces_text are_words lexemes sort_at
 line_read p [] rest fits kept = absurd cc
 line_read p (x ∷ xs) rest fits kept =
@@ -72,13 +76,15 @@ line_cut acc (w ∷ ws) ls =
 abbrev reached : Taken → List Lexeme → List Statement
 reached t ls = t.ended ++ cut_from t.place t.words ls
 
-inner_word : (comma : Option Span) (acc : List Word) (p : ℕ) (x : Piece) → is_inner x ≡ true → in_set comma acc (word_at p x.text x.quoted) ≡ goes_on (AtElement comma) (acc ++ word_at p x.text x.quoted ∷ [])
+inner_word : (comma : Option Span) (acc : List Word) (p : ℕ) (x : Piece) → is_inner x ≡ true
+    → in_set comma acc (word_at p x.text x.quoted) ≡ goes_on (AtElement comma) (acc ++ word_at p x.text x.quoted ∷ [])
 inner_word comma acc p x h =
     let q = and_parts (not (is_word (codes "end-set") (as_word x))) (not (is_word (codes ",") (as_word x))) h in
     rw (not_true (is_word (codes "end-set") (as_word x)) q.0, not_true (is_word (codes ",") (as_word x)) q.1, in_set) refl
 
 -- in a set, the words of an element and those behind it
-inner_cut : (comma : Option Span) (acc : List Word) (xs ys : List Piece) (p : ℕ) (ls : List Lexeme) → list_all is_inner xs ≡ true → (q : ℕ) × (cut_from (AtElement comma) acc (front onto (placed p (xs ++ ys)) ls) ≡ cut_from (AtElement comma) (acc ++ placed p xs) (front onto (placed q ys) ls))
+inner_cut : (comma : Option Span) (acc : List Word) (xs ys : List Piece) (p : ℕ) (ls : List Lexeme) → list_all is_inner xs ≡ true
+    → (q : ℕ) × (cut_from (AtElement comma) acc (front onto (placed p (xs ++ ys)) ls) ≡ cut_from (AtElement comma) (acc ++ placed p xs) (front onto (placed q ys) ls))
 unfolding cut_from taken placed
 inner_cut comma acc [] ys p ls h = (p, ap (λ (ws : List Word). cut_from (AtElement comma) ws (front onto (placed p ys) ls)) (sym (append-nil acc)))
 inner_cut comma acc (x ∷ xs) ys p ls h =
@@ -92,7 +98,9 @@ inner_cut comma acc (x ∷ xs) ys p ls h =
           ∙ ap (λ (ws : List Word). cut_from (AtElement comma) ws (front onto (placed m.0 ys) ls)) (append_assoc acc (w ∷ []) (placed next xs)),
     )
 
-last_word : (ends : Bool) (condition : Bool) (before : List Statement) (acc : List Word) (w : Word) (ls : List Lexeme) (out : List Statement) → ends_with condition w ≡ ends → in_condition condition w ≡ false → ((words : List Word) → cut_from (AtStep false) words ls ≡ said Plain 1 words ++ out) → reached (in_statement condition before acc w) (EndsLine ∷ ls) ≡ before ++ (said Plain 1 (acc ++ w ∷ []) ++ out)
+last_word : (ends : Bool) (condition : Bool) (before : List Statement) (acc : List Word) (w : Word) (ls : List Lexeme) (out : List Statement) → ends_with condition w ≡ ends
+    → in_condition condition w ≡ false → ((words : List Word) → cut_from (AtStep false) words ls ≡ said Plain 1 words ++ out)
+    → reached (in_statement condition before acc w) (EndsLine ∷ ls) ≡ before ++ (said Plain 1 (acc ++ w ∷ []) ++ out)
 unfolding cut_from taken
 last_word true condition before acc w ls out ends none more =
     rw (ends, none, in_statement) (ap (λ (ss : List Statement). (before ++ said Plain 1 (acc ++ w ∷ [])) ++ ss) (more []) ∙ append_assoc before (said Plain 1 (acc ++ w ∷ [])) out)
@@ -100,7 +108,9 @@ last_word false condition before acc w ls out ends none more =
     rw (ends, none, in_statement) (ap (λ (ss : List Statement). before ++ ss) (more (acc ++ w ∷ [])))
 
 -- in a policy, the words of a statement from one on
-step_cut : (condition : Bool) (before : List Statement) (acc : List Word) (x : Piece) (xs : List Piece) (p q : ℕ) (ls : List Lexeme) (out : List Statement) → goes_to_end condition x xs ≡ true → ((words : List Word) → cut_from (AtStep false) words ls ≡ said Plain 1 words ++ out) → reached (in_statement condition before acc (word_at p x.text x.quoted)) (front onto (placed q xs) (EndsLine ∷ ls)) ≡ before ++ (said Plain 1 (acc ++ word_at p x.text x.quoted ∷ placed q xs) ++ out)
+step_cut : (condition : Bool) (before : List Statement) (acc : List Word) (x : Piece) (xs : List Piece) (p q : ℕ) (ls : List Lexeme) (out : List Statement) → goes_to_end condition x xs ≡ true
+    → ((words : List Word) → cut_from (AtStep false) words ls ≡ said Plain 1 words ++ out)
+    → reached (in_statement condition before acc (word_at p x.text x.quoted)) (front onto (placed q xs) (EndsLine ∷ ls)) ≡ before ++ (said Plain 1 (acc ++ word_at p x.text x.quoted ∷ placed q xs) ++ out)
 unfolding cut_from taken placed
 step_cut condition before acc x [] p q ls out h more =
     last_word (ends_with condition (as_word x)) condition before acc (word_at p x.text x.quoted) ls out refl (not_true (in_condition condition (as_word x)) h) more
@@ -138,12 +148,14 @@ IsCut InPolicy p ls = (words : List Word) → cut_from (AtStep false) words (rea
 abbrev past_line : ℕ → RplLine → ℕ
 past_line p l = p + length (line_bytes l) + 1
 
-element_ends : (comma : Bool) (beside : Option Span) (w : Word) (ws : List Word) (q p : ℕ) (ls : List RplLine) → IsCut (behind comma) p ls → cut_from (AtElement beside) (w ∷ ws) (front onto (placed q (mark_behind comma)) (EndsLine ∷ read p ls)) ≡ said (ender_of comma) 1 (w ∷ ws) ++ rpl_placed p ls
+element_ends : (comma : Bool) (beside : Option Span) (w : Word) (ws : List Word) (q p : ℕ) (ls : List RplLine) → IsCut (behind comma) p ls
+    → cut_from (AtElement beside) (w ∷ ws) (front onto (placed q (mark_behind comma)) (EndsLine ∷ read p ls)) ≡ said (ender_of comma) 1 (w ∷ ws) ++ rpl_placed p ls
 unfolding cut_from taken placed
 element_ends true beside w ws q p ls more = ap (λ (ss : List Statement). said Comma 1 (w ∷ ws) ++ ss) (more (record { start = q + 0; end = q + 0 + 1 }))
 element_ends false beside w ws q p ls more = more beside w ws
 
-element_cut : (comma : Bool) (beside : Option Span) (xs : List Piece) (p : ℕ) (ls : List RplLine) → is_line (Element comma xs) ≡ true → IsCut (behind comma) (past_line p (Element comma xs)) ls → cut_from (AtElement beside) [] (read p (Element comma xs ∷ ls)) ≡ rpl_placed p (Element comma xs ∷ ls)
+element_cut : (comma : Bool) (beside : Option Span) (xs : List Piece) (p : ℕ) (ls : List RplLine) → is_line (Element comma xs) ≡ true → IsCut (behind comma) (past_line p (Element comma xs)) ls
+    → cut_from (AtElement beside) [] (read p (Element comma xs ∷ ls)) ≡ rpl_placed p (Element comma xs ∷ ls)
 unfolding placed rpl_text rpl_placed
 element_cut comma beside [] p ls h more = absurd (let a = and_parts (are_words rpl_signs (mark_behind comma)) false h in cc)
 element_cut comma beside (x ∷ xs) p ls h more =
@@ -162,14 +174,16 @@ header_kept CommunitySet xs = refl
 header_kept PathSet xs = refl
 header_kept Policy xs = refl
 
-header_cut : (kind : BlockKind) (xs : List Piece) (p q : ℕ) (ls : List RplLine) → IsCut (within kind) q ls → cut_from (behind_line (placed p (bare (opening kind) ∷ xs))) [] (read q ls) ≡ rpl_placed q ls
+header_cut : (kind : BlockKind) (xs : List Piece) (p q : ℕ) (ls : List RplLine) → IsCut (within kind) q ls
+    → cut_from (behind_line (placed p (bare (opening kind) ∷ xs))) [] (read q ls) ≡ rpl_placed q ls
 unfolding placed
 header_cut PrefixSet xs p q ls h = h
 header_cut CommunitySet xs p q ls h = h
 header_cut PathSet xs p q ls h = h
 header_cut Policy xs p q ls h = h []
 
-step_line_cut : (xs : List Piece) (words : List Word) (p : ℕ) (ls : List RplLine) → is_line (Step xs) ≡ true → IsCut InPolicy (past_line p (Step xs)) ls → cut_from (AtStep false) words (read p (Step xs ∷ ls)) ≡ said Plain 1 words ++ rpl_placed p (Step xs ∷ ls)
+step_line_cut : (xs : List Piece) (words : List Word) (p : ℕ) (ls : List RplLine) → is_line (Step xs) ≡ true → IsCut InPolicy (past_line p (Step xs)) ls
+    → cut_from (AtStep false) words (read p (Step xs ∷ ls)) ≡ said Plain 1 words ++ rpl_placed p (Step xs ∷ ls)
 unfolding cut_from taken placed rpl_text rpl_placed
 step_line_cut [] words p ls h more = absurd (let a = and_parts (are_words rpl_signs []) false h in cc)
 step_line_cut (x ∷ xs) words p ls h more =
@@ -185,7 +199,8 @@ step_line_cut (x ∷ xs) words p ls h more =
     ∙ ap (λ (t : Taken). reached t (front onto (placed next xs) (EndsLine ∷ read q ls))) begins
     ∙ step_cut false (said Plain 1 words) [] x xs (p + x.gap) next (read q ls) (rpl_placed q ls) e.1 more
 
-end_set_cut : (words : List Word) (comma : Option Span) (before : List Statement) (p : ℕ) (ls : List RplLine) → element Plain comma words ≡ before → IsCut Outside (past_line p EndSet) ls → cut_from (AtElement comma) words (read p (EndSet ∷ ls)) ≡ before ++ rpl_placed p (EndSet ∷ ls)
+end_set_cut : (words : List Word) (comma : Option Span) (before : List Statement) (p : ℕ) (ls : List RplLine) → element Plain comma words ≡ before → IsCut Outside (past_line p EndSet) ls
+    → cut_from (AtElement comma) words (read p (EndSet ∷ ls)) ≡ before ++ rpl_placed p (EndSet ∷ ls)
 unfolding cut_from taken placed rpl_text rpl_placed are_words
 end_set_cut words comma before p ls e more =
     ap (λ (ts : List Lexeme). cut_from (AtElement comma) words ts) (line_read p (line_words EndSet) (rpl_text ls) refl refl)
@@ -193,7 +208,8 @@ end_set_cut words comma before p ls e more =
     ∙ append_assoc (element Plain comma words) (said Plain 0 (placed p (line_words EndSet))) (rpl_placed (past_line p EndSet) ls)
     ∙ ap (λ (ss : List Statement). ss ++ rpl_placed p (EndSet ∷ ls)) e
 
-end_policy_cut : (words : List Word) (p : ℕ) (ls : List RplLine) → IsCut Outside (past_line p EndPolicy) ls → cut_from (AtStep false) words (read p (EndPolicy ∷ ls)) ≡ said Plain 1 words ++ rpl_placed p (EndPolicy ∷ ls)
+end_policy_cut : (words : List Word) (p : ℕ) (ls : List RplLine) → IsCut Outside (past_line p EndPolicy) ls
+    → cut_from (AtStep false) words (read p (EndPolicy ∷ ls)) ≡ said Plain 1 words ++ rpl_placed p (EndPolicy ∷ ls)
 unfolding cut_from taken placed rpl_text rpl_placed are_words
 end_policy_cut words p ls more =
     ap (λ (ts : List Lexeme). cut_from (AtStep false) words ts) (line_read p (line_words EndPolicy) (rpl_text ls) refl refl)
@@ -220,28 +236,7 @@ lines_cut BehindElement (EndSet ∷ ls) p h = λ comma w ws. end_set_cut (w ∷ 
 lines_cut InPolicy (Remark ∷ ls) p h = lines_cut InPolicy ls (p + 1 + 1) h
 lines_cut InPolicy (Step xs ∷ ls) p h = λ words. step_line_cut xs words p ls h.0 (lines_cut InPolicy ls (past_line p (Step xs)) h.1)
 lines_cut InPolicy (EndPolicy ∷ ls) p h = λ words. end_policy_cut words p ls (lines_cut Outside ls (past_line p EndPolicy) h)
-lines_cut Outside (Element c xs ∷ ls) p h = absurd h
-lines_cut Outside (Step xs ∷ ls) p h = absurd h
-lines_cut Outside (EndSet ∷ ls) p h = absurd h
-lines_cut Outside (EndPolicy ∷ ls) p h = absurd h
-lines_cut InSet [] p h = absurd h
-lines_cut InSet (Header k xs ∷ ls) p h = absurd h
-lines_cut InSet (Step xs ∷ ls) p h = absurd h
-lines_cut InSet (EndPolicy ∷ ls) p h = absurd h
-lines_cut BehindComma [] p h = absurd h
-lines_cut BehindComma (Header k xs ∷ ls) p h = absurd h
-lines_cut BehindComma (Step xs ∷ ls) p h = absurd h
-lines_cut BehindComma (EndSet ∷ ls) p h = absurd h
-lines_cut BehindComma (EndPolicy ∷ ls) p h = absurd h
-lines_cut BehindElement [] p h = absurd h
-lines_cut BehindElement (Header k xs ∷ ls) p h = absurd h
-lines_cut BehindElement (Element c xs ∷ ls) p h = absurd h
-lines_cut BehindElement (Step xs ∷ ls) p h = absurd h
-lines_cut BehindElement (EndPolicy ∷ ls) p h = absurd h
-lines_cut InPolicy [] p h = absurd h
-lines_cut InPolicy (Header k xs ∷ ls) p h = absurd h
-lines_cut InPolicy (Element c xs ∷ ls) p h = absurd h
-lines_cut InPolicy (EndSet ∷ ls) p h = absurd h
+lines_cut _ _ p h = absurd h
 
 -- the statements of a text that is written
 pub written_cut : (ls : List RplLine) → MayBeWritten Outside ls → rpl_cut (rpl_text ls) ≡ rpl_placed 0 ls

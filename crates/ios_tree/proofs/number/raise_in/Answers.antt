@@ -1,4 +1,4 @@
-use Rattle.ios_tree.proofs.Numbers.{raised}
+use Rattle.ios_tree.proofs.Reading.Numbers.{raised}
 use Rattle.ios_tree.proofs.number.raise_in.Goals as goal
 
 pub returns-in_ok-insert : goal.returns-in_ok-insert

@@ -1,5 +1,5 @@
 use Rattle.policy_text.specs.Phrases.{texts}
-use Rattle.ios_tree.proofs.Numbers.{form_names}
+use Rattle.ios_tree.proofs.Reading.Numbers.{form_names}
 use Rattle.ios_tree.proofs.read.numbered_form.Goals as goal
 
 pub numbered-requires : goal.numbered-requires

@@ -3,7 +3,7 @@ use Rattle.policy_text.specs.Phrases.{texts}
 use Rattle.text_words.specs.declared.statement.Word.{Word}
 use Rattle.ios_tree.specs.Numbering.{Tells, greatest_of, numbered_by}
 use Rattle.ios_tree.specs.Tree.{form_of}
-use Rattle.ios_tree.proofs.Numbers.{item_put, tells_more}
+use Rattle.ios_tree.proofs.Reading.Numbers.{item_put, tells_more}
 use Rattle.ios_tree.proofs.read.push_item.Goals as goal
 
 pub returns-clause-items : goal.returns-clause-items

@@ -1,5 +1,5 @@
 use Rattle.std.proofs.Common.{◌∙◌, sym}
-use Rattle.ios_tree.proofs.Options.{option_none, option_taken, option_left}
+use Rattle.ios_tree.proofs.Forms.Options.{option_none, option_taken, option_left}
 use Rattle.ios_tree.proofs.words.option_in.Goals as goal
 
 pub returns-in_default : goal.returns-in_default

@@ -1,8 +1,7 @@
 -- The numbers that the reader keeps and gives.
 use Rattle.std.proofs.Common.{◌≡◌, refl, sym, ap, ◌∙◌, subst, ℕ, ◌+◌, ◌<◌, max, Bool, true, false, cond, List, [], ◌∷◌, ◌++◌, append_assoc, Option, Some, None, arith}
-use Rattle.std.specs.Prelude.{bytes_eq, nat_le, option_map, slice_get}
+use Rattle.std.specs.Prelude.{bytes_eq, nat_le, option_map, slice_get, codes}
 use Rattle.std.specs.BTreeMap.{BTreeMap, UpdatesBy, get_by}
-use Rattle.std.specs.Cmp.{nat_eq_equiv}
 use Rattle.std.specs.Cmp.Lexicographic.{slice_cmp}
 use Rattle.std.specs.Ordering.{nat_cmp}
 use Rattle.std.proofs.lemmas.Map.Text.{btree_map_updates_str}
@@ -10,19 +9,19 @@ use Rattle.std.proofs.lemmas.Bool.{leb-true, leb-false, lt-leb}
 use denote.Ref.{Bor}
 use Rattle.route_types.specs.declared.address.Family.{Family}
 use Rattle.policy_text.specs.Names.{or_else}
+use Rattle.policy_text.proofs.Phrases.{same_bytes, bytes_sym}
 use Rattle.text_words.specs.declared.statement.Span.{Span}
 use Rattle.ios_tree.specs.Names.{list_name}
 use Rattle.ios_tree.specs.Numbering.{greatest_in, greatest_of, numbered_by, NamesList, Tells}
 use Rattle.ios_tree.specs.Spelling.{Spell, SpellPrefixEntry}
 use Rattle.ios_tree.specs.Tree.{greater, greatest_with, greatest_number, is_of_list, family_of, entry_with_number, numbered, numbered_item, numbered_from, known_form, form_of, name_under}
 use Rattle.ios_tree.specs.declared.item.IosForm.{IosForm}
-use Rattle.ios_tree.specs.declared.item.IosForm.TheVariants.{PrefixEntry, PrefixDescription, CommunityEntry, PathEntry, MapHeader, Line, Other}
+use Rattle.ios_tree.specs.declared.item.IosForm.TheVariants.{PrefixEntry, Other}
 use Rattle.ios_tree.specs.declared.item.IosItem.{IosItem}
 use Rattle.ios_tree.specs.declared.item.ItemSort.{ItemSort}
 use Rattle.ios_tree.specs.declared.item.PrefixListEntry.{PrefixListEntry}
 use Rattle.ios_tree.specs.declared.number.Greatest.{Greatest}
 use Rattle.ios_tree.proofs.Spelled.{is_spelled}
-use Rattle.ios_tree.proofs.WordsSpelled.{same_bytes}
 
 greater_raised : (n m : ℕ) → m < n → greater n m ≡ n
 greater_raised n m h = rw (lt-leb n m h, greater) refl
@@ -30,12 +29,6 @@ greater_raised n m h = rw (lt-leb n m h, greater) refl
 raised_here : (t : Bool) (list q : List ℕ) (number : ℕ) (m : BTreeMap (Bor (List ℕ)) ℕ) → bytes_eq q list ≡ t → greatest_in m list < number → or_else (cond t (Some number) (get_by (λ k. slice_cmp nat_cmp q k.now) m)) 0 ≡ elim t [ true ↦ greater number (greatest_in m q) | false ↦ greatest_in m q ]
 raised_here true list q number m t less = sym (greater_raised number (greatest_in m q) (subst (λ (x : List ℕ). greatest_in m x < number) (sym (same_bytes q list t)) less))
 raised_here false list q number m t less = refl
-
-bytes_sym : (xs ys : List ℕ) → bytes_eq xs ys ≡ bytes_eq ys xs
-bytes_sym [] [] = refl
-bytes_sym [] (y ∷ ys) = refl
-bytes_sym (x ∷ xs) [] = refl
-bytes_sym (x ∷ xs) (y ∷ ys) = rw (nat_eq_equiv.symm x y, bytes_sym xs ys) refl
 
 -- a greater number that was put into a map
 pub raised : (list : List ℕ) (number : ℕ) (m n : BTreeMap (Bor (List ℕ)) ℕ) → greatest_in m list < number → UpdatesBy (λ x y. slice_cmp nat_cmp x.now y.now) (λ k. slice_cmp nat_cmp list k.now) m n (Some number) → (q : List ℕ) → greatest_in n q ≡ elim (bytes_eq q list) [ true ↦ greater number (greatest_in m q) | false ↦ greatest_in m q ]
@@ -68,12 +61,7 @@ entry_number false n = None
 
 abbrev number_in_list : Family → List ℕ → IosForm → Option ℕ
 number_in_list family list (PrefixEntry e) = entry_number (is_of_list family list e) e.number
-number_in_list family list (PrefixDescription d) = None
-number_in_list family list (CommunityEntry e) = None
-number_in_list family list (PathEntry e) = None
-number_in_list family list (MapHeader h) = None
-number_in_list family list (Line l) = None
-number_in_list family list (Other o) = None
+number_in_list family list _ = None
 
 abbrev raised_by : Option ℕ → ℕ → ℕ
 raised_by (Some m) n = greater m n
@@ -85,12 +73,7 @@ entry_raises false m n = refl
 
 form_raises : (family : Family) (list : List ℕ) (form : IosForm) (n : ℕ) → greatest_with family list form n ≡ raised_by (number_in_list family list form) n
 form_raises family list (PrefixEntry e) n = entry_raises (is_of_list family list e) e.number n
-form_raises family list (PrefixDescription d) n = refl
-form_raises family list (CommunityEntry e) n = refl
-form_raises family list (PathEntry e) n = refl
-form_raises family list (MapHeader h) n = refl
-form_raises family list (Line l) n = refl
-form_raises family list (Other o) n = refl
+form_raises family list _ n = refl
 
 raises_swap : (o p : Option ℕ) (n : ℕ) → raised_by o (raised_by p n) ≡ raised_by p (raised_by o n)
 raises_swap (Some a) (Some b) n = greater_swaps a b n
@@ -118,12 +101,7 @@ tells_more old new items i told raised family list =
 -- the number by what is kept is the number
 by_told : (g : Greatest) (items : List IosItem) (form : IosForm) → Tells g items → numbered_by (greatest_of g) form ≡ numbered items form
 by_told g items (PrefixEntry e) told = ap (λ (n : ℕ). elim e.has_seq [ true ↦ PrefixEntry e | false ↦ entry_with_number e (n + 5) ]) (told (family_of e) e.list)
-by_told g items (PrefixDescription d) told = refl
-by_told g items (CommunityEntry e) told = refl
-by_told g items (PathEntry e) told = refl
-by_told g items (MapHeader h) told = refl
-by_told g items (Line l) told = refl
-by_told g items (Other o) told = refl
+by_told g items _ told = refl
 
 -- an item that was put behind the others
 pub item_put : (g : Greatest) (old new more : List IosItem) (written form : IosForm) (span : Span) → Tells g old → form ≡ numbered_by (greatest_of g) written → new ≡ old ++ record { form = form; span = span } ∷ [] → new ++ numbered_from new more ≡ old ++ numbered_from old (record { form = written; span = span } ∷ more)
@@ -136,16 +114,13 @@ item_put g old new more written form span told is put =
 -- ---- the list of an entry
 
 third_word : (ws : List (List ℕ)) (e : PrefixListEntry) → SpellPrefixEntry ws e → option_map list_name (slice_get ws 2) ≡ Some e.list
-third_word ws e h = ap (λ (x : List (List ℕ)). option_map list_name (slice_get x 2)) h.words ∙ ap (λ (x : List ℕ). Some x) (sym h.list.names)
+third_word ws e h =
+    let name = h.words.2 in
+    ap (λ (x : List (List ℕ)). option_map list_name (slice_get x 2)) (h.words.1 ∙ ap (λ (x : List (List ℕ)). codes "ip" ∷ codes "prefix-list" ∷ x) name.2) ∙ ap (λ (x : List ℕ). Some x) (sym name.3.names)
 
 spelled_names : (ws : List (List ℕ)) (form : IosForm) → Spell ws form → NamesList ws form
 spelled_names ws (PrefixEntry e) h = third_word ws e h
-spelled_names ws (PrefixDescription d) h = tt
-spelled_names ws (CommunityEntry e) h = tt
-spelled_names ws (PathEntry e) h = tt
-spelled_names ws (MapHeader m) h = tt
-spelled_names ws (Line l) h = tt
-spelled_names ws (Other o) h = tt
+spelled_names ws _ h = tt
 
 known_names : (ws : List (List ℕ)) (sort : ItemSort) (o : Option IosForm) → known_form sort ws ≡ o → NamesList ws (or_else o (Other (record { sort = sort; name = name_under sort ws })))
 known_names ws sort (Some form) e = spelled_names ws form (is_spelled ws form sort e)

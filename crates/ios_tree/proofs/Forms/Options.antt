@@ -1,10 +1,12 @@
--- An option at the end of a line, both ways.
-use Rattle.std.proofs.Common.{◌≡◌, refl, ap, ◌∙◌, ℕ, suc, ◌≤◌, Bool, true, false, List, [], ◌∷◌, ◌++◌, length, length-append, arith}
+-- An option at the end of a line, both ways and as the program takes it.
+use Rattle.std.proofs.Common.{◌≡◌, refl, sym, ap, ◌∙◌, ℕ, suc, ◌-◌, ◌≤◌, ◌<◌, Bool, true, false, List, [], ◌∷◌, ◌++◌, length, length-append, get_or, take, arith}
 use Rattle.std.specs.Prelude.{bytes_eq}
 use Rattle.std.proofs.lemmas.Slice.Eq.{bytes_eq-Decides}
+use Rattle.text_words.specs.declared.statement.Word.{Word}
+use Rattle.policy_text.specs.Phrases.{texts}
 use Rattle.ios_tree.specs.Forms.{option_in}
 use Rattle.ios_tree.specs.Spelling.{SpellOption}
-use Rattle.ios_tree.proofs.WordsSpelled.{same_bytes}
+use Rattle.policy_text.proofs.Phrases.{same_bytes}
 
 same_tail : (a b : List ℕ) (xs ys : List (List ℕ)) → a ∷ xs ≡ b ∷ ys → (a ≡ b) × (xs ≡ ys)
 same_tail a b xs ys e = (cc, cc)
@@ -64,3 +66,31 @@ left key (w ∷ v ∷ u ∷ ws) h = ap (λ (x : List (List ℕ) × Bool). (w ∷
 pub option_spelled : (key : List ℕ) (ws words : List (List ℕ)) (t : Bool) → 1 ≤ length words → SpellOption key ws t words → option_in key ws ≡ (words, t)
 option_spelled key ws words true some h = ap (λ (x : List (List ℕ)). option_in key x) h ∙ taken key words some
 option_spelled key ws words false some h = left key ws h.1 ∙ ap (λ (x : List (List ℕ)). (x, false)) h.0
+
+-- ---- as the program takes it
+
+-- words whose last one stands behind another and isn't the option
+pub option_left : (key : List ℕ) (ws : List Word) (last : Word) → 2 ≤ length ws → last ≡ get_or ws (length ws - 1) last → bytes_eq last.text key ≡ false → ◌≡◌ {A = List (List ℕ) × Bool} (texts ws, false) (option_in key (texts ws))
+option_left key [] last h is e = absurd (omega arith)
+option_left key (w ∷ []) last h is e = absurd (omega arith)
+option_left key (w ∷ v ∷ []) last h is e = let other : bytes_eq v.text key ≡ false = ap (λ (x : Word). bytes_eq x.text key) (sym is) ∙ e in rw (other, option_in) refl
+option_left key (w ∷ v ∷ u ∷ ws) last h is e =
+    let k : length (w ∷ v ∷ u ∷ ws) - 1 ≡ suc (length (v ∷ u ∷ ws) - 1) = omega arith in
+    let is' : last ≡ get_or (v ∷ u ∷ ws) (length (v ∷ u ∷ ws) - 1) last = rw k at is in
+    ap (λ (x : List (List ℕ) × Bool). (w.text ∷ x.0, x.1)) (option_left key (v ∷ u ∷ ws) last (omega arith) is' e)
+
+-- words whose last one stands behind another and is the option
+pub option_taken : (key : List ℕ) (ws : List Word) (last : Word) → 2 ≤ length ws → last ≡ get_or ws (length ws - 1) last → bytes_eq last.text key ≡ true → ◌≡◌ {A = List (List ℕ) × Bool} (texts (take (length ws - 1) ws), true) (option_in key (texts ws))
+option_taken key [] last h is e = absurd (omega arith)
+option_taken key (w ∷ []) last h is e = absurd (omega arith)
+option_taken key (w ∷ v ∷ []) last h is e = let same : bytes_eq v.text key ≡ true = ap (λ (x : Word). bytes_eq x.text key) (sym is) ∙ e in rw (same, option_in) refl
+option_taken key (w ∷ v ∷ u ∷ ws) last h is e =
+    let k : length (w ∷ v ∷ u ∷ ws) - 1 ≡ suc (length (v ∷ u ∷ ws) - 1) = omega arith in
+    let is' : last ≡ get_or (v ∷ u ∷ ws) (length (v ∷ u ∷ ws) - 1) last = rw k at is in
+    rw k (ap (λ (x : List (List ℕ) × Bool). (w.text ∷ x.0, x.1)) (option_taken key (v ∷ u ∷ ws) last (omega arith) is' e))
+
+-- the option stands behind no word, or there is none
+pub option_none : (key : List ℕ) (ws : List Word) → length ws < 2 → ◌≡◌ {A = List (List ℕ) × Bool} (texts ws, false) (option_in key (texts ws))
+option_none key [] h = refl
+option_none key (w ∷ []) h = refl
+option_none key (w ∷ v ∷ ws) h = absurd (omega arith)

@@ -1,0 +1,4 @@
+-- The laws of whole texts.
+pub mod Numbers
+pub mod Readings
+pub mod Rise
