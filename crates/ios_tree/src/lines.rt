@@ -74,6 +74,7 @@ fn communities_in(alloc: Global, words: &[Word]) -> Result<Option<CommunitySetti
     }
 }
 
+#[tactic(auto, unfolding(policy_text::specs::Phrases::after))]
 fn setting_behind(alloc: Global, words: &[Word]) -> Result<Option<CommunitySetting>, Memory>
     ensures { IfOk result (λ o. o ≡ behind (codes "set" ∷ codes "community" ∷ []) communities_in (texts words.now)) }
 {
@@ -121,7 +122,7 @@ fn target_in(alloc: Global, words: &[Word]) -> Result<Option<Option<u64>>, Memor
 // ---- lines
 
 // A line that tests a prefix or a next hop.
-#[tactic(auto, unfolding(crate::specs::Forms::line_of, crate::specs::Forms::match_prefix_in))]
+#[tactic(auto, unfolding(crate::specs::Forms::line_of, crate::specs::Forms::match_prefix_in, policy_text::specs::Phrases::after))]
 fn match_prefix_in(alloc: Global, words: &[Word]) -> Result<Option<MapLine>, Memory>
     ensures { IfOk result (λ o. o ≡ match_prefix_in (texts words.now)) }
 {

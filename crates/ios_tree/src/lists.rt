@@ -1,9 +1,9 @@
 //! The entries of lists, and the headers of route-maps.
 
-ghost use Rattle.std.specs.Prelude.{◌≡◌, [], ◌∷◌, ◌-◌, ◌^◌, IfOk, map, option_map};
+ghost use Rattle.std.specs.Prelude.{◌≡◌, [], ◌∷◌, IfOk, codes, map, option_map};
 ghost use Rattle.policy_text.specs.Phrases.{texts};
 ghost use Rattle.ios_tree.specs.Forms.{is_written, written_number, range_in, range_or_in, prefix_form, prefix_list_in, head_in, standard_in, expanded_in, community_list_in, path_entry_in, map_header_in};
-ghost use Rattle.ios_tree.specs.Names.{permit_in};
+ghost use Rattle.ios_tree.specs.Names.{list_in, numbered_list_in};
 
 use crate::item::{
     CommunityListEntry, CommunityShape, IosForm, MapHeader, PathListEntry, PrefixDescription,
@@ -175,28 +175,57 @@ fn expanded_in<L: Reads<Row<u8>>>(
     })))
 }
 
-// `ip community-list n|standard N permit|deny C..`, `ip community-list n|expanded N permit|deny X`
+// `ip community-list standard N permit|deny C..`
+#[tactic(auto, unfolding(crate::specs::Forms::standard_in, policy_text::specs::Phrases::after))]
+fn named_standard_in(alloc: Global, words: &[Word]) -> Result<Option<IosForm>, Memory>
+    ensures { IfOk result (λ o. o ≡ standard_in (codes "ip" ∷ codes "community-list" ∷ codes "standard" ∷ []) list_in (texts words.now)) }
+{
+    standard_in::<ListWord>(alloc, words, &[b"ip", b"community-list", b"standard"])
+}
+
+// `ip community-list expanded N permit|deny X`
+#[tactic(auto, unfolding(crate::specs::Forms::expanded_in, policy_text::specs::Phrases::after))]
+fn named_expanded_in(alloc: Global, words: &[Word]) -> Result<Option<IosForm>, Memory>
+    ensures { IfOk result (λ o. o ≡ expanded_in (codes "ip" ∷ codes "community-list" ∷ codes "expanded" ∷ []) list_in (texts words.now)) }
+{
+    expanded_in::<ListWord>(alloc, words, &[b"ip", b"community-list", b"expanded"])
+}
+
+// `ip community-list n permit|deny C..`, n from 1 to 99
+#[tactic(auto, unfolding(crate::specs::Forms::standard_in, policy_text::specs::Phrases::after))]
+fn numbered_standard_in(alloc: Global, words: &[Word]) -> Result<Option<IosForm>, Memory>
+    ensures { IfOk result (λ o. o ≡ standard_in (codes "ip" ∷ codes "community-list" ∷ []) (numbered_list_in 1 99) (texts words.now)) }
+{
+    standard_in::<StandardNumber>(alloc, words, &[b"ip", b"community-list"])
+}
+
+// `ip community-list n permit|deny X`, n from 100 to 500
+#[tactic(auto, unfolding(crate::specs::Forms::expanded_in, policy_text::specs::Phrases::after))]
+fn numbered_expanded_in(alloc: Global, words: &[Word]) -> Result<Option<IosForm>, Memory>
+    ensures { IfOk result (λ o. o ≡ expanded_in (codes "ip" ∷ codes "community-list" ∷ []) (numbered_list_in 100 500) (texts words.now)) }
+{
+    expanded_in::<ExpandedNumber>(alloc, words, &[b"ip", b"community-list"])
+}
+
+// An entry of a community list, named or numbered.
 #[tactic(auto, unfolding(crate::specs::Forms::community_list_in))]
 pub(crate) fn community_list_in(alloc: Global, words: &[Word]) -> Result<Option<IosForm>, Memory>
     ensures { IfOk result (λ o. o ≡ community_list_in (texts words.now)) }
 {
-    let keys: &[&[u8]] = &[b"ip", b"community-list", b"standard"];
-    if let Some(entry) = standard_in::<ListWord>(alloc, words, keys)? {
+    if let Some(entry) = named_standard_in(alloc, words)? {
         return Ok(Some(entry));
     }
-    let keys: &[&[u8]] = &[b"ip", b"community-list", b"expanded"];
-    if let Some(entry) = expanded_in::<ListWord>(alloc, words, keys)? {
+    if let Some(entry) = named_expanded_in(alloc, words)? {
         return Ok(Some(entry));
     }
-    let keys: &[&[u8]] = &[b"ip", b"community-list"];
-    if let Some(entry) = standard_in::<StandardNumber>(alloc, words, keys)? {
+    if let Some(entry) = numbered_standard_in(alloc, words)? {
         return Ok(Some(entry));
     }
-    expanded_in::<ExpandedNumber>(alloc, words, keys)
+    numbered_expanded_in(alloc, words)
 }
 
 // `ip as-path access-list n permit|deny X`
-#[tactic(auto, unfolding(crate::specs::Forms::path_entry_in))]
+#[tactic(auto, unfolding(crate::specs::Forms::path_entry_in, policy_text::specs::Phrases::after))]
 pub(crate) fn path_entry_in(alloc: Global, words: &[Word]) -> Result<Option<IosForm>, Memory>
     ensures { IfOk result (λ o. o ≡ path_entry_in (texts words.now)) }
 {

@@ -1,6 +1,7 @@
 // Runs whose outside fails: a fetch, a put, a text that is longer than may be.
 use crate::runs::{JUDGE, Run, Shown, TRANSLATE, shows, unfailing};
-use std::alloc::Global;
+use std::alloc::{AllocGlobal, Global};
+use std::process::Abort;
 use std::test::Fail;
 
 const POLICY: &str = "\
@@ -133,18 +134,28 @@ end-policy
     ),
 ];
 
+/// The example's run shows this, also where the errors take nothing, which changes neither the status nor the output.
+fn fails(
+    rt: &(impl Abort + AllocGlobal),
+    words: &str,
+    [fetch, out]: [u64; 2],
+    (status, put, line): Shown<'_>,
+) -> Result<(), Fail> {
+    for (err, told) in [(0, line), (1, "")] {
+        let asked = Run {
+            words,
+            texts: &TEXTS,
+            failing: [fetch, out, err],
+        };
+        shows(rt, &asked, (status, put, told))?;
+    }
+    Ok(())
+}
+
 #[test]
 fn outside_that_fails(rt: HostRuntime) -> Result<(), Fail> {
-    for (words, [fetch, out], (status, put, line)) in RUNS {
-        // What the errors do changes neither the status nor the output.
-        for (err, told) in [(0, *line), (1, "")] {
-            let asked = Run {
-                words,
-                texts: &TEXTS,
-                failing: [*fetch, *out, err],
-            };
-            shows(&rt, &asked, (*status, put, told))?;
-        }
+    for (words, failing, shown) in RUNS {
+        fails(&rt, words, *failing, *shown)?;
     }
     Ok(())
 }
