@@ -16,6 +16,7 @@ pub mod RowSteps
 pub mod RowLaws
 pub mod RowsFind
 pub mod JunosCut
+pub mod Positions
 pub mod JunosFound
 pub mod JunosBytes
 pub mod JunosWords

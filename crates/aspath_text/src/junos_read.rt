@@ -125,7 +125,7 @@ fn place_of_sign(text: &[u8]) -> Option<usize>
     text.iter().position(|c| is_sign(*c))
 }
 
-#[tactic(auto, using(route_types::proofs::LineWords::len_by_position, crate::proofs::JunosCut::place_within))]
+#[tactic(auto, using(crate::proofs::Positions::len_by_position, crate::proofs::JunosCut::place_within))]
 fn set_len(text: &[u8]) -> usize
     ensures value { result ≡ position_or_len is_sign text.now }
     ensures within { result ≤ length text.now }

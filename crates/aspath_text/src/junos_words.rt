@@ -89,7 +89,7 @@ fn place_of_blank(text: &[u8]) -> Option<usize>
     text.iter().position(|c| is_blank(*c))
 }
 
-#[tactic(auto, using(route_types::proofs::LineWords::len_by_position, crate::proofs::JunosCut::place_within))]
+#[tactic(auto, using(crate::proofs::Positions::len_by_position, crate::proofs::JunosCut::place_within))]
 fn word_len(text: &[u8]) -> usize
     ensures value { result ≡ position_or_len is_blank text.now }
     ensures within { result ≤ length text.now }
