@@ -8,7 +8,7 @@ use Rattle.policy_outside.specs.Counts.{Rose}
 use Rattle.policy_outside.specs.Texts.{Texts}
 use Rattle.policy_outside.specs.Shelf.{ShelfView, SameFaults, FaultRose}
 use Rattle.policy_outside.specs.Sink.{Puts}
-use Rattle.rpl_reader.specs.Written.{is_new_name}
+use Rattle.rpl_written.specs.Written.{is_new_name}
 use Rattle.policy_program.specs.Answer.{Told, CannotRead, IsTooLong, IsBroken, HasNoPolicy, IsOutside, SpellsNoRoute, Result, status_told, line_told}
 use Rattle.policy_program.specs.Words.{Verb, Translates, Judges, Request, Translate, Judge, request_by, slots, app_of_verb, AreValues, Accepts}
 use Rattle.policy_program.specs.Requests.{Input, inputs_of, file_in, IsTextOf, HasNoText, AreTextsOf, IsAtTurn, IsDue}

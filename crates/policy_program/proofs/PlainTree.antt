@@ -24,7 +24,7 @@ use Rattle.ios_tree.specs.declared.item.PrefixListEntry.{PrefixListEntry}
 use Rattle.ios_tree.specs.declared.item.IosItem.{IosItem}
 use Rattle.ios_tree.proofs.Forms.Entries.{spelled_range}
 use Rattle.ios_tree.proofs.Spelled.{is_spelled}
-use Rattle.rpl_reader.specs.Written.{IsPlainRange}
+use Rattle.rpl_written.specs.Written.{IsPlainRange}
 use Rattle.policy_program.specs.Plan.{IsPlainLine, IsPlainForm, HasPlainForm}
 
 line_plain : (words : List (List ℕ)) (line : MapLine) → SpellLine words line → IsPlainLine line

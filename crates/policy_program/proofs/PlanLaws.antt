@@ -4,7 +4,7 @@ use Rattle.std.specs.Prelude.{slice_get, option_map}
 use Rattle.std.specs.Borrow.{Bor}
 use Rattle.std.proofs.lemmas.List.{append-nil, take_all, map_push}
 use Rattle.prefix_sets.specs.Range.{RangeParts}
-use Rattle.rpl_reader.specs.Layout.{Step}
+use Rattle.rpl_written.specs.Layout.{Step}
 use Rattle.policy_program.specs.Plan.{Plain, ranges_at, entry_view, entry_views}
 use Rattle.policy_program.specs.Steps.{step_of, steps_of}
 use Rattle.policy_program.specs.declared.plan.PlainEntry.{PlainEntry}

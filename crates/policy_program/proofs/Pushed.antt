@@ -1,7 +1,7 @@
 -- Pieces that were put behind each other.
 use Rattle.std.proofs.Common.{◌≡◌, ℕ, List, [], ◌∷◌, ◌++◌, sym, ap, ◌∙◌, append_assoc, ◌≤◌, ◌-◌, length, get_or, take, drop, arith}
 use Rattle.std.proofs.lemmas.List.{take_all}
-use Rattle.rpl_reader.specs.Layout.{preferences_text}
+use Rattle.rpl_written.specs.Layout.{preferences_text}
 use Rattle.policy_program.specs.Steps.{preference_text}
 
 pub pushed2 : (o o1 o2 a b : List ℕ) → o1 ≡ o ++ a → o2 ≡ o1 ++ b → o2 ≡ o ++ (a ++ b)

@@ -17,7 +17,7 @@ use Rattle.ios_tree.specs.declared.item.IosForm.TheVariants.{PrefixEntry, Prefix
 use Rattle.ios_tree.specs.declared.item.IosItem.{IosItem}
 use Rattle.ios_meaning.specs.Order.{in_order}
 use Rattle.ios_meaning.specs.Lists.{prefix_entry_from, prefix_entries, prefix_list}
-use Rattle.rpl_reader.specs.Written.{IsPlainRange}
+use Rattle.rpl_written.specs.Written.{IsPlainRange}
 use Rattle.policy_program.specs.Plan.{list_entries, list_entry_from, ranges_named, IsPlainForm, HasPlainForm}
 use Rattle.policy_program.proofs.InOrder.{any_in_order, all_in_order}
 

@@ -7,14 +7,14 @@ use Rattle.policy_text.specs.declared.fault.CheckFault.TheVariants.{Memory}
 use Rattle.ios_tree.specs.Tree.{ios_tree}
 use Rattle.ios_reader.specs.Profile.{PolicyParts}
 use Rattle.ios_meaning.specs.Meaning.{ios_meaning}
-use Rattle.rpl_reader.specs.declared.item.RplForm.{RplForm}
-use Rattle.rpl_reader.specs.Tree.{rpl_tree}
-use Rattle.rpl_reader.specs.Profile as rpl
-use Rattle.rpl_reader.specs.Meaning.{rpl_meaning}
-use Rattle.rpl_reader.specs.Own.{TouchesItsOwn}
-use Rattle.rpl_reader.proofs.ReadBack.{reads_as, touches_its_own}
-use Rattle.rpl_reader.proofs.WrittenProfile.{in_profile}
-use Rattle.rpl_reader.proofs.WrittenMeaning.{means_steps}
+use Rattle.rpl_written.specs.declared.item.RplForm.{RplForm}
+use Rattle.rpl_written.specs.Tree.{rpl_tree}
+use Rattle.rpl_written.specs.Profile as rpl
+use Rattle.rpl_written.specs.Meaning.{rpl_meaning}
+use Rattle.rpl_written.specs.Own.{TouchesItsOwn}
+use Rattle.rpl_written.proofs.ReadBack.{reads_as, touches_its_own}
+use Rattle.rpl_written.proofs.WrittenProfile.{in_profile}
+use Rattle.rpl_written.proofs.WrittenMeaning.{means_steps}
 use Rattle.policy_program.specs.FirstForms.{is_first_form}
 use Rattle.policy_program.specs.Source.{Rpl, OfIos, OfRpl, ios_source}
 use Rattle.policy_program.specs.Results.{IsTranslation}

@@ -12,7 +12,7 @@ use Rattle.policy_program.specs.FirstForms.{is_first_form}
 use Rattle.ios_tree.specs.declared.item.IosItem.{IosItem}
 use Rattle.ios_tree.specs.declared.item.PrefixListEntry.{PrefixListEntry}
 use Rattle.ios_meaning.specs.Order.{in_order}
-use Rattle.rpl_reader.specs.Written.{IsPlainRange}
+use Rattle.rpl_written.specs.Written.{IsPlainRange}
 use Rattle.policy_program.specs.Plan.{Plain, IsPlainLine, HasPlainForm, plain_entries, first_outcome, ranges_at, ranges_named, list_entries}
 use Rattle.policy_program.specs.Planned.{Lists, HavePreferences, IsTextOf}
 use Rattle.policy_program.specs.Written.{Writes}

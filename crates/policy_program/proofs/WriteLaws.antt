@@ -16,8 +16,8 @@ use Rattle.ios_tree.specs.declared.item.IosItem.{IosItem}
 use Rattle.route_types.specs.declared.address.Family.TheVariants.{V4}
 use Rattle.prefix_sets.specs.FirstMatch.{first_match}
 use Rattle.ios_meaning.specs.Lists.{prefix_list}
-use Rattle.rpl_reader.specs.Layout.{Step}
-use Rattle.rpl_reader.specs.Written.{IsPlainRange, IsPlainStep, guard_holds, step_outcome, steps_outcome}
+use Rattle.rpl_written.specs.Layout.{Step}
+use Rattle.rpl_written.specs.Written.{IsPlainRange, IsPlainStep, guard_holds, step_outcome, steps_outcome}
 use Rattle.policy_program.specs.Plan.{Plain, ranges_at, plain_holds, plain_outcome, first_outcome}
 use Rattle.policy_program.specs.Planned.{Lists, SameActions, Plans, AreRangesOf, HavePreferences}
 

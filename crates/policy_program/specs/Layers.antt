@@ -11,7 +11,7 @@ use Rattle.route_types.specs.Route.{RouteParts}
 use Rattle.ios_tree.specs.Tree.{ios_tree}
 use Rattle.ios_reader.specs.Profile.{PolicyParts}
 use Rattle.ios_meaning.specs.Meaning.{ios_meaning, name_of}
-use Rattle.rpl_reader.specs.Written.{is_new_name}
+use Rattle.rpl_written.specs.Written.{is_new_name}
 use Rattle.policy_program.specs.Source.{Taken, Rpl, Loaded, NoPolicy, Outside, OfIos, Loads, ios_source}
 use Rattle.policy_program.specs.FirstForms.{is_first_form}
 use Rattle.policy_program.specs.Results.{IsTranslation, outcome_text}

@@ -23,7 +23,7 @@ use Rattle.ios_tree.specs.declared.item.IosForm.TheVariants.{PrefixEntry, Prefix
 use Rattle.ios_tree.specs.declared.item.IosItem.{IosItem}
 use Rattle.ios_reader.specs.Entries.{Entry}
 use Rattle.ios_meaning.specs.Lists.{prefix_list}
-use Rattle.rpl_reader.specs.Written.{IsPlainRange}
+use Rattle.rpl_written.specs.Written.{IsPlainRange}
 use Rattle.policy_program.specs.declared.plan.PlainEntry.{PlainEntry}
 
 -- a match line names IPv4 lists, and a local preference fits: so reads each line of a text

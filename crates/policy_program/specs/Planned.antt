@@ -5,8 +5,8 @@ use Rattle.std.specs.Borrow.{Bor}
 use Rattle.std.specs.BTreeMap.{BTreeMap}
 use Rattle.std.specs.declared.alloc.Global.{Global}
 use Rattle.prefix_sets.specs.Range.{RangeParts}
-use Rattle.rpl_reader.specs.Layout.{Step, policy_text}
-use Rattle.rpl_reader.specs.Written.{IsWritable}
+use Rattle.rpl_written.specs.Layout.{Step, policy_text}
+use Rattle.rpl_written.specs.Written.{IsWritable}
 use Rattle.policy_program.specs.Plan.{Plain, ranges_at}
 
 -- ranges under the names of lists

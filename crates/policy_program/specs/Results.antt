@@ -5,7 +5,7 @@ use Rattle.route_types.specs.RouteText.{SpellsRoute, route_text}
 use Rattle.route_types.specs.declared.route.Outcome.{Outcome}
 use Rattle.route_types.specs.declared.route.Outcome.TheVariants.{Reject, Accept}
 use Rattle.ios_reader.specs.Profile.{all_forms}
-use Rattle.rpl_reader.specs.Own.{TouchesItsOwn}
+use Rattle.rpl_written.specs.Own.{TouchesItsOwn}
 use Rattle.policy_program.specs.FirstForms.{is_first_form}
 use Rattle.policy_program.specs.Source.{Dialect, Ios, Rpl, Source, Policy, Loaded, Loads, meaning}
 

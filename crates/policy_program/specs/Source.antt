@@ -9,10 +9,10 @@ use Rattle.ios_tree.specs.declared.item.IosItem.{IosItem}
 use Rattle.ios_reader.specs.Profile as ios
 use Rattle.ios_tree.specs.declared.item.IosForm.{IosForm}
 use Rattle.ios_meaning.specs.Meaning.{ios_meaning}
-use Rattle.rpl_reader.specs.declared.item.RplItem.{RplItem}
-use Rattle.rpl_reader.specs.Tree.{rpl_tree, forms}
-use Rattle.rpl_reader.specs.Profile as rpl
-use Rattle.rpl_reader.specs.Meaning.{rpl_meaning}
+use Rattle.rpl_written.specs.declared.item.RplItem.{RplItem}
+use Rattle.rpl_written.specs.Tree.{rpl_tree, forms}
+use Rattle.rpl_written.specs.Profile as rpl
+use Rattle.rpl_written.specs.Meaning.{rpl_meaning}
 
 -- the languages that a text is read in
 pub data Dialect : Type 0 where

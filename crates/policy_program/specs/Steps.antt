@@ -2,7 +2,7 @@
 use Rattle.std.specs.Prelude.{ℕ, List, [], ◌∷◌, ◌++◌, map, codes, decimal}
 use Rattle.std.specs.Borrow.{Bor}
 use Rattle.prefix_sets.specs.Range.{RangeParts}
-use Rattle.rpl_reader.specs.Layout.{Step as Written, set_name, actions_text, elements_text, steps_text}
+use Rattle.rpl_written.specs.Layout.{Step as Written, set_name, actions_text, elements_text, steps_text}
 use Rattle.policy_program.specs.declared.rpl_text.Step.{Step}
 
 -- a step without where its numbers lie in memory

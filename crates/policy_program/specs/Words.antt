@@ -3,7 +3,7 @@
 use Rattle.std.specs.Prelude.{◌≡◌, ◌≢◌, ◌⊎◌, ℕ, ◌&&◌, not, Bool, true, false, nat_lt, ◌==◌, List, [], ◌∷◌, length, Option, Some, None, bytes_eq, codes}
 use Rattle.std.specs.List.{list_all}
 use Rattle.clap.specs.Words.{App, Rule, fault_of, first_of, matches_of, new_app, new_rule, with_rule}
-use Rattle.rpl_reader.specs.Written.{is_new_name}
+use Rattle.rpl_written.specs.Written.{is_new_name}
 use Rattle.policy_program.specs.declared.command.JudgeWords.{JudgeWords}
 use Rattle.policy_program.specs.declared.command.Request.{Request as Asked}
 use Rattle.policy_program.specs.declared.command.Request.TheVariants as asked

@@ -1,8 +1,8 @@
 // Writing RPL: the prefix sets first, then the policy, step by step.
 ghost use Rattle.std.specs.Prelude.{◌≡◌, ℕ, ◌+◌, ◌<◌, ◌^◌, ◌++◌, ◌∷◌, [], IfOk, decimal, codes, map, length};
 ghost use Rattle.std.specs.List.{AllByRecursion};
-ghost use Rattle.rpl_reader.specs.Written.{IsPlainRange, IsPlainStep};
-ghost use Rattle.rpl_reader.specs.Layout.{set_name, lengths_text, element_text, elements_text, set_text, sets_text, preferences_text, verdict_text, actions_text, steps_text, policy_text};
+ghost use Rattle.rpl_written.specs.Written.{IsPlainRange, IsPlainStep};
+ghost use Rattle.rpl_written.specs.Layout.{set_name, lengths_text, element_text, elements_text, set_text, sets_text, preferences_text, verdict_text, actions_text, steps_text, policy_text};
 ghost use Rattle.policy_program.specs.Steps.{step_of, steps_of, contents, element_end, preference_text, guard_text, guarded_text, block_text};
 
 use prefix_sets::PrefixRange;
@@ -64,7 +64,7 @@ fn push_lengths(out: &mut Vec<u8>, length: u8, least: u8, most: u8) -> Result<()
     push_bound(out, b" le ", most)
 }
 
-#[tactic(auto, unfolding(rpl_reader::specs::Layout::element_text))]
+#[tactic(auto, unfolding(rpl_written::specs::Layout::element_text))]
 fn push_element(out: &mut Vec<u8>, range: &PrefixRange) -> Result<(), Memory>
     requires { IsPlainRange range.now }
     ensures { IfOk result (λ _. out.new.items ≡ out.old.items ++ element_text range.now) }
@@ -75,7 +75,7 @@ fn push_element(out: &mut Vec<u8>, range: &PrefixRange) -> Result<(), Memory>
 }
 
 /// The lines of a set's elements, a comma behind all but the last.
-#[tactic(auto, unfolding(rpl_reader::specs::Layout::elements_text))]
+#[tactic(auto, unfolding(rpl_written::specs::Layout::elements_text))]
 fn push_elements(out: &mut Vec<u8>, ranges: &[PrefixRange]) -> Result<(), Memory>
     requires { AllByRecursion IsPlainRange ranges.now }
     ensures { IfOk result (λ _. out.new.items ≡ out.old.items ++ elements_text ranges.now) }
@@ -91,7 +91,7 @@ fn push_elements(out: &mut Vec<u8>, ranges: &[PrefixRange]) -> Result<(), Memory
 }
 
 /// What stands behind an element before these others.
-#[tactic(auto, unfolding(rpl_reader::specs::Layout::elements_text))]
+#[tactic(auto, unfolding(rpl_written::specs::Layout::elements_text))]
 fn push_element_end(out: &mut Vec<u8>, others: &[PrefixRange]) -> Result<(), Memory>
     ensures { IfOk result (λ _. out.new.items ++ elements_text others.now ≡ out.old.items ++ element_end others.now) }
 {
@@ -112,7 +112,7 @@ fn push_set_header(out: &mut Vec<u8>, name: &[u8], place: usize) -> Result<(), M
     Ok(())
 }
 
-#[tactic(auto, unfolding(rpl_reader::specs::Layout::set_text))]
+#[tactic(auto, unfolding(rpl_written::specs::Layout::set_text))]
 fn push_set(
     out: &mut Vec<u8>,
     name: &[u8],
@@ -129,7 +129,7 @@ fn push_set(
     Ok(())
 }
 
-#[tactic(auto, unfolding(rpl_reader::specs::Layout::sets_text))]
+#[tactic(auto, unfolding(rpl_written::specs::Layout::sets_text))]
 fn push_sets(out: &mut Vec<u8>, name: &[u8], sets: &[&[PrefixRange]]) -> Result<(), Memory>
     requires few { length sets.now < 2 ^ 63 }
     requires plain { AllByRecursion (AllByRecursion IsPlainRange) (contents sets.now) }
@@ -156,7 +156,7 @@ fn push_preference(out: &mut Vec<u8>, blanks: &[u8], preference: u32) -> Result<
     Ok(())
 }
 
-#[tactic(auto, using(crate::proofs::Pushed::preferences_cons), unfolding(rpl_reader::specs::Layout::preferences_text))]
+#[tactic(auto, using(crate::proofs::Pushed::preferences_cons), unfolding(rpl_written::specs::Layout::preferences_text))]
 fn push_preferences(out: &mut Vec<u8>, blanks: &[u8], preferences: &[u32]) -> Result<(), Memory>
     ensures { IfOk result (λ _. out.new.items ≡ out.old.items ++ preferences_text blanks.now preferences.now) }
 {
@@ -179,7 +179,7 @@ fn push_verdict(out: &mut Vec<u8>, accept: bool) -> Result<(), Memory>
 }
 
 /// What a step does, with these blanks in front.
-#[tactic(auto, unfolding(rpl_reader::specs::Layout::actions_text))]
+#[tactic(auto, unfolding(rpl_written::specs::Layout::actions_text))]
 fn push_actions(out: &mut Vec<u8>, blanks: &[u8], step: &Step<'_>) -> Result<(), Memory>
     ensures { IfOk result (λ _. out.new.items ≡ out.old.items ++ actions_text blanks.now (step_of step.now)) }
 {
@@ -212,7 +212,7 @@ fn push_guarded(out: &mut Vec<u8>, name: &[u8], place: usize, step: &Step<'_>) -
 }
 
 /// The lines of the steps; behind one without a guard nothing follows.
-#[tactic(auto, unfolding(rpl_reader::specs::Layout::steps_text))]
+#[tactic(auto, unfolding(rpl_written::specs::Layout::steps_text))]
 fn push_steps(out: &mut Vec<u8>, name: &[u8], steps: &[Step<'_>]) -> Result<(), Memory>
     requires { AllByRecursion (IsPlainStep (2 ^ 63)) (steps_of steps.now) }
     ensures { IfOk result (λ _. out.new.items ≡ out.old.items ++ steps_text name.now (steps_of steps.now)) }
@@ -243,7 +243,7 @@ fn push_block(out: &mut Vec<u8>, name: &[u8], steps: &[Step<'_>]) -> Result<(), 
 
 /// The text of a policy of this name with its sets, put at the end of `out`. Its one error is want of
 /// memory.
-#[tactic(auto, unfolding(rpl_reader::specs::Layout::policy_text))]
+#[tactic(auto, unfolding(rpl_written::specs::Layout::policy_text))]
 pub fn push_policy(
     out: &mut Vec<u8>,
     name: &[u8],

@@ -2,7 +2,7 @@
 ghost use Rattle.std.specs.Prelude.{◌≡◌, [], ◌∷◌, true, None, MatchResult};
 ghost use Rattle.std.specs.List.{AllByRecursion};
 ghost use Rattle.ios_reader.specs.Profile.{first_fault_within};
-ghost use Rattle.rpl_reader.specs.Written.{is_new_name};
+ghost use Rattle.rpl_written.specs.Written.{is_new_name};
 ghost use Rattle.policy_program.specs.FirstForms.{is_first_form};
 ghost use Rattle.policy_program.specs.Plan.{HasPlainForm};
 ghost use Rattle.policy_program.specs.Written.{Writes};

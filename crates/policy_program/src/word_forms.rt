@@ -1,7 +1,7 @@
 // The forms of words that name policies.
 ghost use Rattle.std.specs.Prelude.{◌≡◌};
 ghost use Rattle.std.specs.List.{list_all};
-ghost use Rattle.rpl_reader.specs.Written.{is_letter, is_name_byte, is_new_name};
+ghost use Rattle.rpl_written.specs.Written.{is_letter, is_name_byte, is_new_name};
 ghost use Rattle.policy_program.specs.Words.{is_policy_byte, is_policy_word};
 
 fn is_policy_byte(byte: u8) -> bool

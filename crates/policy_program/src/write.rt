@@ -2,7 +2,7 @@
 ghost use Rattle.std.specs.Prelude.{◌≡◌, ℕ, List, None, IfOk, true};
 ghost use Rattle.std.specs.List.{AllByRecursion};
 ghost use Rattle.ios_reader.specs.Profile.{first_fault_within};
-ghost use Rattle.rpl_reader.specs.Written.{is_new_name, IsPlainRange};
+ghost use Rattle.rpl_written.specs.Written.{is_new_name, IsPlainRange};
 ghost use Rattle.policy_program.specs.FirstForms.{is_first_form};
 ghost use Rattle.policy_program.specs.Plan.{HasPlainForm, ranges_at, entry_views};
 ghost use Rattle.policy_program.specs.Planned.{HavePreferences, IsTextOf};

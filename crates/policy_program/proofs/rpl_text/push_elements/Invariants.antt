@@ -1,7 +1,7 @@
 use Rattle.std.proofs.Common.{◌≡◌, ◌++◌, length}
 use Rattle.std.specs.List.{AllByRecursion}
-use Rattle.rpl_reader.specs.Layout.{elements_text}
-use Rattle.rpl_reader.specs.Written.{IsPlainRange}
+use Rattle.rpl_written.specs.Layout.{elements_text}
+use Rattle.rpl_written.specs.Written.{IsPlainRange}
 use Rattle.policy_program.proofs.rpl_text.push_elements.Given as goal
 
 abbrev pub decreases-loop-rest : goal.decreases-loop-rest

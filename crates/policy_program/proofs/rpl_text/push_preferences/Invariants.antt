@@ -1,5 +1,5 @@
 use Rattle.std.proofs.Common.{◌≡◌, ◌++◌, length}
-use Rattle.rpl_reader.specs.Layout.{preferences_text}
+use Rattle.rpl_written.specs.Layout.{preferences_text}
 use Rattle.policy_program.proofs.rpl_text.push_preferences.Given as goal
 
 abbrev pub decreases-loop-rest : goal.decreases-loop-rest

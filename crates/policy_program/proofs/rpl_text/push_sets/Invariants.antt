@@ -1,7 +1,7 @@
 use Rattle.std.proofs.Common.{◌≡◌, ◌++◌, ◌+◌, ◌<◌, ◌^◌, length}
 use Rattle.std.specs.List.{AllByRecursion}
-use Rattle.rpl_reader.specs.Layout.{sets_text}
-use Rattle.rpl_reader.specs.Written.{IsPlainRange}
+use Rattle.rpl_written.specs.Layout.{sets_text}
+use Rattle.rpl_written.specs.Written.{IsPlainRange}
 use Rattle.policy_program.specs.Steps.{contents}
 use Rattle.policy_program.proofs.rpl_text.push_sets.Given as goal
 

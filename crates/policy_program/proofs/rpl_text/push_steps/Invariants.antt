@@ -1,7 +1,7 @@
 use Rattle.std.proofs.Common.{◌≡◌, ◌++◌, ◌^◌, length}
 use Rattle.std.specs.List.{AllByRecursion}
-use Rattle.rpl_reader.specs.Layout.{steps_text}
-use Rattle.rpl_reader.specs.Written.{IsPlainStep}
+use Rattle.rpl_written.specs.Layout.{steps_text}
+use Rattle.rpl_written.specs.Written.{IsPlainStep}
 use Rattle.policy_program.specs.Steps.{steps_of}
 use Rattle.policy_program.proofs.rpl_text.push_steps.Given as goal
 

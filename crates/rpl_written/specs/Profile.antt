@@ -9,9 +9,9 @@ use Rattle.policy_text.specs.declared.fault.Cause.{Cause}
 use Rattle.policy_text.specs.declared.fault.Cause.TheVariants.{UnknownForm, DefinedTwice, Undefined, TooDeep}
 use Rattle.text_words.specs.declared.rpl_blocks.BlockKind.{BlockKind}
 use Rattle.text_words.specs.declared.rpl_blocks.BlockKind.TheVariants.{PrefixSet as PrefixSetKind, Policy}
-use Rattle.rpl_reader.specs.declared.item.RplForm.{RplForm}
-use Rattle.rpl_reader.specs.declared.item.RplForm.TheVariants.{PrefixSet, RoutePolicy, If, EndIf, End, Other}
-use Rattle.rpl_reader.specs.declared.item.RplTest.TheVariants.{Destination}
+use Rattle.rpl_written.specs.declared.item.RplForm.{RplForm}
+use Rattle.rpl_written.specs.declared.item.RplForm.TheVariants.{PrefixSet, RoutePolicy, If, EndIf, End, Other}
+use Rattle.rpl_written.specs.declared.item.RplTest.TheVariants.{Destination}
 
 -- the first line of a block, of whatever form: what it opens, and the name it stands under
 pub record Header : Type 0 where

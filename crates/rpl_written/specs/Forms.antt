@@ -8,9 +8,9 @@ use Rattle.policy_text.specs.Bounds.{bounds_in}
 use Rattle.route_types.specs.Address.{PrefixParts, prefix_of}
 use Rattle.prefix_sets.specs.Range.{RangeParts}
 use Rattle.text_words.specs.declared.statement.Word.{Word}
-use Rattle.rpl_reader.specs.declared.item.RplForm.{RplForm}
-use Rattle.rpl_reader.specs.declared.item.RplForm.TheVariants.{PrefixSet, RoutePolicy, If, EndIf, SetLocalPreference, Done, Drop}
-use Rattle.rpl_reader.specs.declared.item.RplTest.TheVariants.{Destination}
+use Rattle.rpl_written.specs.declared.item.RplForm.{RplForm}
+use Rattle.rpl_written.specs.declared.item.RplForm.TheVariants.{PrefixSet, RoutePolicy, If, EndIf, SetLocalPreference, Done, Drop}
+use Rattle.rpl_written.specs.declared.item.RplTest.TheVariants.{Destination}
 use Rattle.text_words.specs.RplCut.{starts}
 
 -- the texts of words none of which is quoted

@@ -5,11 +5,11 @@ use Rattle.text_words.specs.Pieces.{pieces_behind, line_pieces}
 use Rattle.text_words.specs.RplText.{is_plain, RplLine, Remark, Header, Element as ElementLine, Step, EndSet, EndPolicy}
 use Rattle.text_words.specs.declared.rpl_blocks.BlockKind.{BlockKind}
 use Rattle.text_words.specs.declared.rpl_blocks.BlockKind.TheVariants.{PrefixSet as PrefixSetKind, Policy}
-use Rattle.rpl_reader.specs.declared.item.RplForm.{RplForm}
-use Rattle.rpl_reader.specs.declared.item.RplForm.TheVariants.{PrefixSet, Element, RoutePolicy, If, EndIf, SetLocalPreference, Done, Drop, End}
-use Rattle.rpl_reader.specs.declared.item.RplTest.TheVariants.{Destination}
-use Rattle.rpl_reader.specs.Forms.{is_rpl_name, is_name_within}
-use Rattle.rpl_reader.specs.Written.{IsPlainRange}
+use Rattle.rpl_written.specs.declared.item.RplForm.{RplForm}
+use Rattle.rpl_written.specs.declared.item.RplForm.TheVariants.{PrefixSet, Element, RoutePolicy, If, EndIf, SetLocalPreference, Done, Drop, End}
+use Rattle.rpl_written.specs.declared.item.RplTest.TheVariants.{Destination}
+use Rattle.rpl_written.specs.Forms.{is_rpl_name, is_name_within}
+use Rattle.rpl_written.specs.Written.{IsPlainRange}
 
 -- the words of the lengths, by the three tests of their layout
 abbrev pub words_by : Bool → Bool → Bool → ℕ → ℕ → List (List ℕ)

@@ -16,17 +16,17 @@ use Rattle.text_words.specs.declared.rpl_blocks.BlockKind.{BlockKind}
 use Rattle.text_words.specs.declared.rpl_blocks.BlockKind.TheVariants.{PrefixSet as PrefixSetKind, Policy}
 use Rattle.text_words.proofs.PlainWords.{plain_alone}
 use Rattle.text_words.proofs.RplWritten.{written_cut}
-use Rattle.rpl_reader.specs.declared.item.RplForm.{RplForm}
-use Rattle.rpl_reader.specs.declared.item.RplForm.TheVariants.{PrefixSet, Element, RoutePolicy, If, EndIf, SetLocalPreference, Done, Drop, End, Other}
-use Rattle.rpl_reader.specs.declared.item.RplTest.TheVariants.{Destination}
-use Rattle.rpl_reader.specs.declared.item.RplItem.{RplItem}
-use Rattle.rpl_reader.specs.Forms.{plain_texts, prefix_set_in, policy_header_in, if_in, set_in, single_word_in}
-use Rattle.rpl_reader.specs.Layout.{Step as PolicyStep, policy_text, policy_forms, set_name, lengths_by, element_text, elements_text, set_text, sets_text, preferences_text, verdict_text, actions_text, steps_text, set_forms, sets_forms, verdict_form, actions_forms, steps_forms}
-use Rattle.rpl_reader.specs.Own.{StandsInOwn, TouchesItsOwn, IsOwn}
-use Rattle.rpl_reader.specs.Spelling.{lengths_words, spell, goes_on, lines_of, AllFit, words_by}
-use Rattle.rpl_reader.specs.Tree.{ends_block, ifs_within, known_statement, header_form, statement_form, items_of, is_whole, rpl_tree, forms}
-use Rattle.rpl_reader.specs.Written.{IsWritable, IsPlainRange, IsPlainStep, is_new_name}
-use Rattle.rpl_reader.proofs.Spelled.{if_line, if_known, set_line, set_known, element_fits, element_line, element_known, new_name, set_name_named, set_name_inner}
+use Rattle.rpl_written.specs.declared.item.RplForm.{RplForm}
+use Rattle.rpl_written.specs.declared.item.RplForm.TheVariants.{PrefixSet, Element, RoutePolicy, If, EndIf, SetLocalPreference, Done, Drop, End, Other}
+use Rattle.rpl_written.specs.declared.item.RplTest.TheVariants.{Destination}
+use Rattle.rpl_written.specs.declared.item.RplItem.{RplItem}
+use Rattle.rpl_written.specs.Forms.{plain_texts, prefix_set_in, policy_header_in, if_in, set_in, single_word_in}
+use Rattle.rpl_written.specs.Layout.{Step as PolicyStep, policy_text, policy_forms, set_name, lengths_by, element_text, elements_text, set_text, sets_text, preferences_text, verdict_text, actions_text, steps_text, set_forms, sets_forms, verdict_form, actions_forms, steps_forms}
+use Rattle.rpl_written.specs.Own.{StandsInOwn, TouchesItsOwn, IsOwn}
+use Rattle.rpl_written.specs.Spelling.{lengths_words, spell, goes_on, lines_of, AllFit, words_by}
+use Rattle.rpl_written.specs.Tree.{ends_block, ifs_within, known_statement, header_form, statement_form, items_of, is_whole, rpl_tree, forms}
+use Rattle.rpl_written.specs.Written.{IsWritable, IsPlainRange, IsPlainStep, is_new_name}
+use Rattle.rpl_written.proofs.Spelled.{if_line, if_known, set_line, set_known, element_fits, element_line, element_known, new_name, set_name_named, set_name_inner}
 use Rattle.std.specs.List.{AllByRecursion}
 
 -- ---- forms on lines are read back

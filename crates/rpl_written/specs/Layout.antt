@@ -3,9 +3,9 @@
 use Rattle.std.specs.Prelude.{ℕ, ◌+◌, Bool, true, false, ◌==◌, List, [], ◌∷◌, ◌++◌, Option, Some, None, codes, decimal, map}
 use Rattle.route_types.specs.Print.{prefix_text}
 use Rattle.prefix_sets.specs.Range.{RangeParts}
-use Rattle.rpl_reader.specs.declared.item.RplForm.{RplForm}
-use Rattle.rpl_reader.specs.declared.item.RplForm.TheVariants.{PrefixSet, Element, RoutePolicy, If, EndIf, SetLocalPreference, Done, Drop, End}
-use Rattle.rpl_reader.specs.declared.item.RplTest.TheVariants.{Destination}
+use Rattle.rpl_written.specs.declared.item.RplForm.{RplForm}
+use Rattle.rpl_written.specs.declared.item.RplForm.TheVariants.{PrefixSet, Element, RoutePolicy, If, EndIf, SetLocalPreference, Done, Drop, End}
+use Rattle.rpl_written.specs.declared.item.RplTest.TheVariants.{Destination}
 
 -- a step of a policy: the place of the prefix set that guards it, if one does; the local preferences that
 -- it sets, in their order; and whether it accepts

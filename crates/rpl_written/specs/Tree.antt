@@ -7,11 +7,11 @@ use Rattle.text_words.specs.declared.statement.Word.{Word}
 use Rattle.text_words.specs.declared.statement.Statement.{Statement}
 use Rattle.text_words.specs.declared.rpl_blocks.BlockKind.{BlockKind}
 use Rattle.text_words.specs.declared.rpl_blocks.BlockKind.TheVariants.{PrefixSet, Policy}
-use Rattle.rpl_reader.specs.declared.item.RplForm.{RplForm}
-use Rattle.rpl_reader.specs.declared.item.RplForm.TheVariants.{Element, End, Other}
-use Rattle.rpl_reader.specs.declared.item.RplItem.{RplItem}
+use Rattle.rpl_written.specs.declared.item.RplForm.{RplForm}
+use Rattle.rpl_written.specs.declared.item.RplForm.TheVariants.{Element, End, Other}
+use Rattle.rpl_written.specs.declared.item.RplItem.{RplItem}
 use Rattle.text_words.specs.RplCut.{is_word, opened_by, rpl_cut}
-use Rattle.rpl_reader.specs.Forms.{plain_texts, element_in, prefix_set_in, policy_header_in, if_in, set_in, single_word_in}
+use Rattle.rpl_written.specs.Forms.{plain_texts, element_in, prefix_set_in, policy_header_in, if_in, set_in, single_word_in}
 
 -- the block that a statement outside blocks opens
 abbrev pub opens : List Word → Option BlockKind

@@ -8,12 +8,12 @@ use Rattle.route_types.specs.Change.{changed, changed_by}
 use Rattle.route_types.specs.declared.change.Change.TheVariants.{LocalPreference}
 use Rattle.route_types.specs.declared.route.Outcome.{Outcome}
 use Rattle.route_types.specs.declared.route.Outcome.TheVariants.{Reject, Accept}
-use Rattle.rpl_reader.specs.declared.item.RplForm.{RplForm}
-use Rattle.rpl_reader.specs.declared.item.RplForm.TheVariants.{PrefixSet, Element, RoutePolicy, EndIf, SetLocalPreference, End}
-use Rattle.rpl_reader.specs.Layout.{Step, set_name, set_forms, sets_forms, verdict_form, actions_forms, steps_forms, policy_forms}
-use Rattle.rpl_reader.specs.Meaning.{elements_below, set_elements, policy_body, passed_over, run, rpl_meaning}
-use Rattle.rpl_reader.specs.Written.{IsWritable, IsPlainStep, guard_holds, step_outcome, steps_outcome}
-use Rattle.rpl_reader.proofs.SetNames.{same_name, set_names_apart}
+use Rattle.rpl_written.specs.declared.item.RplForm.{RplForm}
+use Rattle.rpl_written.specs.declared.item.RplForm.TheVariants.{PrefixSet, Element, RoutePolicy, EndIf, SetLocalPreference, End}
+use Rattle.rpl_written.specs.Layout.{Step, set_name, set_forms, sets_forms, verdict_form, actions_forms, steps_forms, policy_forms}
+use Rattle.rpl_written.specs.Meaning.{elements_below, set_elements, policy_body, passed_over, run, rpl_meaning}
+use Rattle.rpl_written.specs.Written.{IsWritable, IsPlainStep, guard_holds, step_outcome, steps_outcome}
+use Rattle.rpl_written.proofs.SetNames.{same_name, set_names_apart}
 
 -- ---- where the policy stands
 

@@ -22,13 +22,13 @@ use Rattle.text_words.specs.RplText.{breaks, is_plain, rpl_signs, Element as Ele
 use Rattle.text_words.specs.declared.rpl_blocks.BlockKind.TheVariants.{PrefixSet as PrefixSetKind, Policy}
 use Rattle.text_words.proofs.RplLexes.{apart, not_true}
 use Rattle.text_words.proofs.PlainWords.{IsTail, plain_line, plain_alone, none_of, no_byte_of, plain_word, no_key, no_keys}
-use Rattle.rpl_reader.specs.declared.item.RplForm.TheVariants.{Element, If, SetLocalPreference}
-use Rattle.rpl_reader.specs.declared.item.RplTest.TheVariants.{Destination}
-use Rattle.rpl_reader.specs.Forms.{is_rpl_name, equal_in, element_in, if_in, set_in, single_word_in}
-use Rattle.rpl_reader.specs.Layout.{set_name}
-use Rattle.rpl_reader.specs.Tree.{known_statement}
-use Rattle.rpl_reader.specs.Spelling.{words_by, lengths_words, spell, IsHeaderName, IsInnerName}
-use Rattle.rpl_reader.specs.Written.{IsPlainRange, is_letter, is_name_byte, is_new_name}
+use Rattle.rpl_written.specs.declared.item.RplForm.TheVariants.{Element, If, SetLocalPreference}
+use Rattle.rpl_written.specs.declared.item.RplTest.TheVariants.{Destination}
+use Rattle.rpl_written.specs.Forms.{is_rpl_name, equal_in, element_in, if_in, set_in, single_word_in}
+use Rattle.rpl_written.specs.Layout.{set_name}
+use Rattle.rpl_written.specs.Tree.{known_statement}
+use Rattle.rpl_written.specs.Spelling.{words_by, lengths_words, spell, IsHeaderName, IsInnerName}
+use Rattle.rpl_written.specs.Written.{IsPlainRange, is_letter, is_name_byte, is_new_name}
 
 -- ---- values are plain words
 

@@ -10,16 +10,16 @@ use Rattle.route_types.specs.declared.address.Family.TheVariants.{V4}
 use Rattle.route_types.specs.declared.route.NextHop.TheVariants.{Own}
 use Rattle.route_types.specs.declared.route.Origin.TheVariants.{Igp}
 use Rattle.route_types.specs.declared.route.Outcome.TheVariants.{Reject, Accept}
-use Rattle.rpl_reader.specs.Forms.{element_in, prefix_set_in, policy_header_in, if_in, set_in, single_word_in}
-use Rattle.rpl_reader.specs.Tree.{rpl_tree, items_of, is_whole, header_form, statement_form, forms}
+use Rattle.rpl_written.specs.Forms.{element_in, prefix_set_in, policy_header_in, if_in, set_in, single_word_in}
+use Rattle.rpl_written.specs.Tree.{rpl_tree, items_of, is_whole, header_form, statement_form, forms}
 use Rattle.prefix_sets.specs.Range.{RangeParts}
 use Rattle.route_types.specs.Print.{prefix_text}
-use Rattle.rpl_reader.specs.Layout.{Step, policy_text, steps_text, actions_text, preferences_text, sets_text, set_text, elements_text, element_text, policy_forms, steps_forms, actions_forms, sets_forms, set_forms}
-use Rattle.rpl_reader.specs.Meaning.{run, rpl_meaning}
-use Rattle.rpl_reader.specs.Written.{IsWritable}
-use Rattle.rpl_reader.specs.declared.item.RplForm.{RplForm}
-use Rattle.rpl_reader.specs.declared.item.RplForm.TheVariants.{PrefixSet, Element, RoutePolicy, If, EndIf, SetLocalPreference, Done, Drop, End}
-use Rattle.rpl_reader.specs.declared.item.RplTest.TheVariants.{Destination}
+use Rattle.rpl_written.specs.Layout.{Step, policy_text, steps_text, actions_text, preferences_text, sets_text, set_text, elements_text, element_text, policy_forms, steps_forms, actions_forms, sets_forms, set_forms}
+use Rattle.rpl_written.specs.Meaning.{run, rpl_meaning}
+use Rattle.rpl_written.specs.Written.{IsWritable}
+use Rattle.rpl_written.specs.declared.item.RplForm.{RplForm}
+use Rattle.rpl_written.specs.declared.item.RplForm.TheVariants.{PrefixSet, Element, RoutePolicy, If, EndIf, SetLocalPreference, Done, Drop, End}
+use Rattle.rpl_written.specs.declared.item.RplTest.TheVariants.{Destination}
 
 -- lines, each with its LF
 abbrev text : List (List ℕ) → List ℕ

@@ -9,7 +9,7 @@ use Rattle.route_types.specs.declared.address.Family.TheVariants.{V4}
 use Rattle.route_types.specs.declared.change.Change.TheVariants.{LocalPreference}
 use Rattle.route_types.specs.declared.route.Outcome.{Outcome}
 use Rattle.route_types.specs.declared.route.Outcome.TheVariants.{Reject, Accept}
-use Rattle.rpl_reader.specs.Layout.{Step}
+use Rattle.rpl_written.specs.Layout.{Step}
 
 -- an ASCII letter
 abbrev pub is_letter : ℕ → Bool

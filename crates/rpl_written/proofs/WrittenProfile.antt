@@ -6,14 +6,14 @@ use Rattle.std.proofs.lemmas.Bool.{and_parts, or_from, or_left, or_right}
 use Rattle.std.proofs.lemmas.List.Folds.{list_any-append}
 use Rattle.prefix_sets.specs.Range.{RangeParts}
 use Rattle.policy_text.specs.declared.fault.Cause.{Cause}
-use Rattle.rpl_reader.specs.declared.item.RplForm.{RplForm}
-use Rattle.rpl_reader.specs.declared.item.RplForm.TheVariants.{PrefixSet, Element, RoutePolicy, If, EndIf, SetLocalPreference, End, Other}
-use Rattle.rpl_reader.specs.declared.item.RplTest.{RplTest}
-use Rattle.rpl_reader.specs.declared.item.RplTest.TheVariants.{Destination}
-use Rattle.rpl_reader.specs.Layout.{Step, set_name, set_forms, sets_forms, verdict_form, actions_forms, steps_forms, policy_forms}
-use Rattle.rpl_reader.specs.Profile.{heads_set, heads_policy, reached, ifs_after, open_ifs, cause_at, InProfile}
-use Rattle.rpl_reader.specs.Written.{IsWritable, IsPlainStep}
-use Rattle.rpl_reader.proofs.SetNames.{same_name, set_names_apart}
+use Rattle.rpl_written.specs.declared.item.RplForm.{RplForm}
+use Rattle.rpl_written.specs.declared.item.RplForm.TheVariants.{PrefixSet, Element, RoutePolicy, If, EndIf, SetLocalPreference, End, Other}
+use Rattle.rpl_written.specs.declared.item.RplTest.{RplTest}
+use Rattle.rpl_written.specs.declared.item.RplTest.TheVariants.{Destination}
+use Rattle.rpl_written.specs.Layout.{Step, set_name, set_forms, sets_forms, verdict_form, actions_forms, steps_forms, policy_forms}
+use Rattle.rpl_written.specs.Profile.{heads_set, heads_policy, reached, ifs_after, open_ifs, cause_at, InProfile}
+use Rattle.rpl_written.specs.Written.{IsWritable, IsPlainStep}
+use Rattle.rpl_written.proofs.SetNames.{same_name, set_names_apart}
 
 -- ---- forms without a cause, one after another
 

@@ -9,10 +9,10 @@ use Rattle.route_types.specs.Change.{changed}
 use Rattle.route_types.specs.declared.change.Change.TheVariants.{LocalPreference}
 use Rattle.route_types.specs.declared.route.Outcome.{Outcome}
 use Rattle.route_types.specs.declared.route.Outcome.TheVariants.{Reject, Accept}
-use Rattle.rpl_reader.specs.declared.item.RplForm.{RplForm}
-use Rattle.rpl_reader.specs.declared.item.RplForm.TheVariants.{PrefixSet, Element, RoutePolicy, If, EndIf, SetLocalPreference, Done, Drop, End}
-use Rattle.rpl_reader.specs.declared.item.RplTest.{RplTest}
-use Rattle.rpl_reader.specs.declared.item.RplTest.TheVariants.{Destination}
+use Rattle.rpl_written.specs.declared.item.RplForm.{RplForm}
+use Rattle.rpl_written.specs.declared.item.RplForm.TheVariants.{PrefixSet, Element, RoutePolicy, If, EndIf, SetLocalPreference, Done, Drop, End}
+use Rattle.rpl_written.specs.declared.item.RplTest.{RplTest}
+use Rattle.rpl_written.specs.declared.item.RplTest.TheVariants.{Destination}
 
 -- the elements right below the first line of a set
 abbrev pub elements_below : List RplForm → List RangeParts

@@ -3,13 +3,13 @@
 ghost use Rattle.std.specs.Prelude.{◌≡◌, ℕ, List, Option, Some};
 ghost use Rattle.prefix_sets.specs.Range.{RangeParts};
 ghost use Rattle.route_types.specs.Route.{RouteParts};
-ghost use Rattle.rpl_reader.specs.declared.item.RplItem.{RplItem};
-ghost use Rattle.rpl_reader.specs.Layout.{Step, policy_text, policy_forms};
-ghost use Rattle.rpl_reader.specs.Meaning.{rpl_meaning};
-ghost use Rattle.rpl_reader.specs.Own.{TouchesItsOwn};
-ghost use Rattle.rpl_reader.specs.Profile.{InProfile};
-ghost use Rattle.rpl_reader.specs.Tree.{rpl_tree, forms};
-ghost use Rattle.rpl_reader.specs.Written.{IsWritable, steps_outcome};
+ghost use Rattle.rpl_written.specs.declared.item.RplItem.{RplItem};
+ghost use Rattle.rpl_written.specs.Layout.{Step, policy_text, policy_forms};
+ghost use Rattle.rpl_written.specs.Meaning.{rpl_meaning};
+ghost use Rattle.rpl_written.specs.Own.{TouchesItsOwn};
+ghost use Rattle.rpl_written.specs.Profile.{InProfile};
+ghost use Rattle.rpl_written.specs.Tree.{rpl_tree, forms};
+ghost use Rattle.rpl_written.specs.Written.{IsWritable, steps_outcome};
 
 /// A policy that is written reads back: the tree of its text says what the policy says, form by form.
 /// A policy is written under a name of at most 63 letters, digits, `-` and `_`, the first a letter.

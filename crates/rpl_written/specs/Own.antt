@@ -4,7 +4,7 @@ use Rattle.text_words.specs.RplCut.{rpl_cut}
 use Rattle.text_words.specs.declared.statement.Word.{Word}
 use Rattle.text_words.specs.declared.statement.Statement.{Statement}
 use Rattle.text_words.specs.declared.rpl_blocks.BlockKind.{BlockKind}
-use Rattle.rpl_reader.specs.Tree.{opens, ends_block}
+use Rattle.rpl_written.specs.Tree.{opens, ends_block}
 
 -- the name itself, or the name with `-` and more behind it
 abbrev pub IsOwn : List ℕ → List ℕ → Type 0
