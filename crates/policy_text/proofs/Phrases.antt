@@ -10,16 +10,6 @@ use Rattle.route_types.specs.Words.{◌>>=◌, when, is_digit}
 use Rattle.route_types.proofs.Numbers.{some_is, bind_found, decimal_starts}
 use Rattle.policy_text.specs.Names.{first_some}
 use Rattle.policy_text.specs.Phrases.{after, each, each_onto, Each}
-use Rattle.std.proofs.Common.{arith, length}
-use Rattle.std.specs.Prelude.{IsTrue}
-use Rattle.policy_text.specs.Phrases.{only, some_each, name_in}
-use Rattle.route_types.specs.Address.{PrefixParts, prefix_of}
-use Rattle.route_types.specs.Words.{number_in, address_in, prefix_in, community_in, IsNumber, IsAddress, IsPrefix, IsCommunity}
-use Rattle.route_types.specs.declared.address.Address.{Address}
-use Rattle.route_types.specs.declared.community.Community.{Community}
-use Rattle.route_types.proofs.Numbers.{when_true, number_in_found, number_in_spelled}
-use Rattle.route_types.proofs.Spelled.{address_in_found, address_in_spelled, prefix_in_found, prefix_in_spelled, community_in_found, community_in_spelled}
-use Rattle.policy_text.specs.Names.{is_name}
 
 -- ---- the words behind the first ones
 
@@ -124,79 +114,3 @@ bytes_sym [] [] = refl
 bytes_sym [] (y ∷ ys) = refl
 bytes_sym (x ∷ xs) [] = refl
 bytes_sym (x ∷ xs) (y ∷ ys) = rw (nat_eq_equiv.symm x y, bytes_sym xs ys) refl
-
--- ---- goes once `ios_tree` stands on `Agree`
-
--- ---- the one word
-
--- there is one word, and it has the value
-pub only_found : {A : Type 0} (f : List ℕ → Option A) (ws : List (List ℕ)) (x : A) → only f ws ≡ Some x → (w : List ℕ) × (ws ≡ w ∷ []) × (f w ≡ Some x)
-only_found f [] x e = absurd cc
-only_found f (w ∷ []) x e = (w, refl, e)
-only_found f (v ∷ w ∷ ws) x e = absurd cc
-
--- the value of the one word is found
-pub only_spelled : {A : Type 0} (f : List ℕ → Option A) (ws : List (List ℕ)) (w : List ℕ) (x : A) → ws ≡ w ∷ [] → f w ≡ Some x → only f ws ≡ Some x
-only_spelled {A} f ws w x one e = ap (λ (vs : List (List ℕ)). only f vs) one ∙ e
-
--- there is a word, and the words have these values one by one
-pub some_each_found : {A : Type 0} (f : List ℕ → Option A) (P : List ℕ → A → Type 0) → ((w : List ℕ) (x : A) → f w ≡ Some x → P w x) → (ws : List (List ℕ)) (xs : List A) → some_each f ws ≡ Some xs → (0 < length ws) × Each P ws xs
-some_each_found f P is [] xs e = absurd cc
-some_each_found f P is (w ∷ ws) xs e = (omega arith, each_found f P is (w ∷ ws) xs e)
-
--- the values that the words have one by one are found, where there is a word
-pub some_each_spelled : {A : Type 0} (f : List ℕ → Option A) (P : List ℕ → A → Type 0) → ((w : List ℕ) (x : A) → P w x → f w ≡ Some x) → (ws : List (List ℕ)) (xs : List A) → 0 < length ws → Each P ws xs → some_each f ws ≡ Some xs
-some_each_spelled f P is [] xs some h = absurd (omega (arith, some))
-some_each_spelled f P is (w ∷ ws) xs some h = each_spelled f P is (w ∷ ws) xs h
-
--- ---- the values of a word
-
--- the name is the word
-pub name_found : (w v : List ℕ) → name_in w ≡ Some v → (v ≡ w) × IsTrue (is_name w)
-name_found w v e = let h = when_found (is_name w) w v e in (sym h.1, h.0)
-
--- a word that is a name is found
-pub name_spelled : (w v : List ℕ) → v ≡ w → IsTrue (is_name w) → name_in w ≡ Some v
-name_spelled w v e named = when_true (is_name w) w named ∙ ap (λ (x : List ℕ). Some x) (sym e)
-
--- the number is spelled
-pub number_found : (most : ℕ) → most < 2 ^ 64 → (w : List ℕ) (n : ℕ) → number_in most w ≡ Some n → IsNumber most w n
-number_found most small w n e = number_in_found most w n small e
-
--- a number that is spelled is found
-pub number_spelled : (most : ℕ) → most < 2 ^ 64 → (w : List ℕ) (n : ℕ) → IsNumber most w n → number_in most w ≡ Some n
-number_spelled most small w n h = ap (λ (x : List ℕ). number_in most x) h.spelled ∙ number_in_spelled most n h.within (omega (arith, h.within))
-
--- the address is spelled
-pub address_found : (w : List ℕ) (a : Address) → address_in w ≡ Some a → IsAddress w a
-address_found w a e = address_in_found w a e
-
--- an address that is spelled is found
-pub address_spelled : (w : List ℕ) (a : Address) → IsAddress w a → address_in w ≡ Some a
-address_spelled w a h =
-    ap (λ (x : List ℕ). address_in x) h.spelled
-    ∙ address_in_spelled h.octets (record { first = h.first; second = h.second; third = h.third; fourth = h.fourth })
-    ∙ ap (λ (b : Address). Some b) (sym h.value)
-
--- the prefix is spelled
-pub prefix_found : (w : List ℕ) (p : PrefixParts) → prefix_in w ≡ Some p → IsPrefix w p
-prefix_found w p e = prefix_in_found w p e
-
--- a prefix that is spelled is found
-pub prefix_spelled : (w : List ℕ) (p : PrefixParts) → IsPrefix w p → prefix_in w ≡ Some p
-prefix_spelled w p h =
-    let a = h.spells_address in
-    let text : w ≡ _ = h.spelled ∙ ap (λ (x : List ℕ). x ++ (47 ∷ decimal h.length)) a.spelled in
-    ap (λ (x : List ℕ). prefix_in x) text
-    ∙ prefix_in_spelled a.octets h.length (record { first = a.first; second = a.second; third = a.third; fourth = a.fourth }) h.within
-    ∙ ap (λ (q : PrefixParts). Some q) (sym (h.value ∙ ap (λ x. prefix_of x h.length) a.value))
-
--- the community is spelled
-pub community_found : (w : List ℕ) (c : Community) → community_in w ≡ Some c → IsCommunity w c
-community_found w c e = community_in_found w c e
-
--- a community that is spelled is found
-pub community_spelled : (w : List ℕ) (c : Community) → IsCommunity w c → community_in w ≡ Some c
-community_spelled w c h =
-    ap (λ (x : List ℕ). community_in x) h.spelled ∙ community_in_spelled h.high h.low h.high_within h.low_within
-    ∙ ap (λ (d : Community). Some d) (sym h.value)

@@ -5,6 +5,9 @@ use Rattle.route_types.specs.Address.{PrefixParts, prefix_of}
 use Rattle.route_types.specs.Words.{number_in, address_in, prefix_in, community_in, IsNumber, IsAddress, IsPrefix, IsCommunity}
 use Rattle.route_types.specs.declared.address.Address.{Address}
 use Rattle.route_types.specs.declared.community.Community.{Community}
+use Rattle.route_types.specs.RouteLines.{origin_in}
+use Rattle.route_types.specs.RouteText.{SpellsOrigin}
+use Rattle.route_types.proofs.RouteWords.{origins}
 use Rattle.route_types.proofs.Numbers.{when_true, number_in_found, number_in_spelled}
 use Rattle.route_types.proofs.Spelled.{address_in_found, address_in_spelled, prefix_in_found, prefix_in_spelled, community_in_found, community_in_spelled}
 use Rattle.policy_text.specs.Names.{is_name}
@@ -50,3 +53,6 @@ community_agrees = record {
       ap (λ (x : List ℕ). community_in x) h.spelled ∙ community_in_spelled h.high h.low h.high_within h.low_within
       ∙ ap (λ (d : Community). Some d) (sym h.value);
 }
+
+pub origin_agrees : Agrees origin_in SpellsOrigin
+origin_agrees = record { found = origins.found; only = origins.again }

@@ -3,3 +3,5 @@ pub mod Bounds
 pub mod Phrases
 pub mod Causes
 pub mod NameSets
+pub mod CauseNames
+pub mod CommonWords

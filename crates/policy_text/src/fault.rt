@@ -1,3 +1,6 @@
+ghost use Rattle.std.specs.Prelude.{◌≡◌};
+ghost use Rattle.policy_text.specs.CauseNames.{cause_name};
+
 use text_words::Span;
 
 /// Why a policy lies outside the profile. Where several stand at one statement, the first of this
@@ -42,6 +45,33 @@ pub enum Cause {
     ArgumentCount,
     /// An argument does not fit where it is used.
     BadArgument,
+}
+
+/// The name of a cause as it is printed: lower case, with dashes between its words.
+pub fn cause_name(cause: Cause) -> &'static str
+    ensures { result.now ≡ cause_name cause }
+{
+    match cause {
+        Cause::UnknownForm => "unknown-form",
+        Cause::DefinedTwice => "defined-twice",
+        Cause::SequenceTwice => "sequence-twice",
+        Cause::Undefined => "undefined",
+        Cause::SameKindTwice => "same-kind-twice",
+        Cause::BackwardContinue => "backward-continue",
+        Cause::DenyContinue => "deny-continue",
+        Cause::UnsettledTest => "unsettled-test",
+        Cause::ExactExpanded => "exact-expanded",
+        Cause::NotPlain => "not-plain",
+        Cause::MixedPrefixTests => "mixed-prefix-tests",
+        Cause::SamePrefixTwice => "same-prefix-twice",
+        Cause::PathTestAfterPrepend => "path-test-after-prepend",
+        Cause::SubroutineChanges => "subroutine-changes",
+        Cause::NextPolicyInSubroutine => "next-policy-in-subroutine",
+        Cause::Cycle => "cycle",
+        Cause::TooDeep => "too-deep",
+        Cause::ArgumentCount => "argument-count",
+        Cause::BadArgument => "bad-argument",
+    }
 }
 
 /// Why a policy could not be checked.

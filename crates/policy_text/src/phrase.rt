@@ -5,7 +5,8 @@ ghost use Rattle.policy_text.specs.Bounds.{one_bound_in, bounds_in};
 ghost use Rattle.policy_text.specs.Names.{is_mark, is_name};
 ghost use Rattle.policy_text.specs.Phrases.{texts, after};
 
-use route_types::{Memory, Row, read_number};
+use crate::common_words::number_of_8_bits;
+use route_types::{Memory, Row};
 use std::alloc::Global;
 use text_words::Word;
 
@@ -94,12 +95,10 @@ pub fn parts_at(word: &[u8], byte: u8) -> Option<(&[u8], &[u8])>
 
 // ---- `ge G` and `le E` behind a prefix
 
-#[tactic(auto, using(route_types::proofs::Numbers::number_in_within))]
 fn bound(word: &Word) -> Option<u8>
     ensures { result ≡ number_in 32 word.now.text }
 {
-    let number = read_number(word.text.as_slice(), 32)?;
-    Some(number as u8)
+    number_of_8_bits(word.text.as_slice(), 32)
 }
 
 fn one_bound(length: u8, key: &Word, word: &Word) -> Option<(u8, u8)>

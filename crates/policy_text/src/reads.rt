@@ -1,11 +1,13 @@
 //! Kinds of words, and the walks over words that serve every kind.
 
 ghost use Rattle.std.specs.Prelude.{◌≡◌, ◌-◌, ◌^◌, ℕ, List, [], Option, IfOk, map, option_map};
+ghost use Rattle.route_types.specs.RouteLines.{origin_in};
 ghost use Rattle.route_types.specs.Words.{number_in, address_in};
 ghost use Rattle.policy_text.specs.Phrases.{texts, only, value_at, behind, optional_at, each, each_onto, some_each, name_in};
 
+use crate::common_words::{number_of_16_bits, number_of_32_bits};
 use crate::phrase::{after, copied, is_name};
-use route_types::{Address, Memory, Row, read_address, read_number};
+use route_types::{Address, Memory, Origin, Row, read_address, read_number, read_origin};
 use std::alloc::Global;
 use text_words::Word;
 
@@ -163,14 +165,6 @@ impl Reads<u64> for Number64 {
 /// A number, 0 to 2^32 - 1.
 pub struct Number32;
 
-#[tactic(auto, using(route_types::proofs::Numbers::number_in_within))]
-fn number_of_32_bits(word: &[u8]) -> Option<u32>
-    ensures { result ≡ number_in (2 ^ 32 - 1) word.now }
-{
-    let number = read_number(word, 4294967295)?;
-    Some(number as u32)
-}
-
 impl Reads<u32> for Number32 {
     ghost find = { number_in (2 ^ 32 - 1) };
 
@@ -181,14 +175,6 @@ impl Reads<u32> for Number32 {
 
 /// A number, 0 to 65535.
 pub struct Number16;
-
-#[tactic(auto, using(route_types::proofs::Numbers::number_in_within))]
-fn number_of_16_bits(word: &[u8]) -> Option<u16>
-    ensures { result ≡ number_in 65535 word.now }
-{
-    let number = read_number(word, 65535)?;
-    Some(number as u16)
-}
 
 impl Reads<u16> for Number16 {
     ghost find = { number_in 65535 };
@@ -206,5 +192,16 @@ impl Reads<Address> for AddressWord {
 
     fn read(_alloc: Global, word: &[u8]) -> Result<Option<Address>, Memory> {
         Ok(read_address(word))
+    }
+}
+
+/// An origin: `igp`, `egp` or `incomplete`.
+pub struct OriginWord;
+
+impl Reads<Origin> for OriginWord {
+    ghost find = { origin_in };
+
+    fn read(_alloc: Global, word: &[u8]) -> Result<Option<Origin>, Memory> {
+        Ok(read_origin(word))
     }
 }

@@ -43,8 +43,10 @@ fn next_hop_of(words: &[Word]) -> Option<NextHop>
     next_hop_in(word)
 }
 
+/// The origin that a word spells: `igp`, `egp` or `incomplete` (RFC 4271, 5.1.1). `None` where it spells
+/// none. It takes no memory.
 #[tactic(auto, unfolding(crate::specs::RouteLines::origin_in))]
-fn origin_in(word: &[u8]) -> Option<Origin>
+pub fn read_origin(word: &[u8]) -> Option<Origin>
     ensures { result ≡ origin_in word.now }
 {
     if word == b"igp".as_slice() {
@@ -63,7 +65,7 @@ fn origin_of(words: &[Word]) -> Option<Origin>
     ensures { result ≡ origin_of_line (texts words.now) }
 {
     let word = word_behind(words, b"origin")?;
-    origin_in(word)
+    read_origin(word)
 }
 
 #[tactic(auto, using(crate::proofs::Numbers::number_in_within))]

@@ -11,5 +11,6 @@ pub mod RplWritten
 pub mod PlainWords
 mod RplExamples
 pub mod JunosRise
+pub mod RplRise
 mod JunosExamples
 mod Examples

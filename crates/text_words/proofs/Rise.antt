@@ -14,7 +14,7 @@ use Rattle.text_words.specs.Rising.{StatementsRise}
 
 -- ---- words
 
-abbrev WordsRise : ℕ → ℕ → List Word → Type 0
+abbrev pub WordsRise : ℕ → ℕ → List Word → Type 0
 WordsRise p end [] = p ≤ end
 WordsRise p end (w ∷ ws) = (p ≤ w.span.start) × (w.span.start < w.span.end) × WordsRise w.span.end end ws
 
@@ -30,12 +30,12 @@ with_last : (p q end : ℕ) (ws : List Word) (word : List ℕ) → q + length wo
 with_last p q end ws [] le h = words_higher p q end ws (omega arith) h
 with_last p q end ws (c ∷ cs) le h = one_more p q c end cs ws le h
 
-words_end : (p end : ℕ) (ws : List Word) → WordsRise p end ws → p ≤ end
+pub words_end : (p end : ℕ) (ws : List Word) → WordsRise p end ws → p ≤ end
 words_end p end [] h = h
 words_end p end (w ∷ ws) h = omega (arith, h.0, h.1, words_end w.span.end end ws h.2)
 
 -- the last word ends within
-end_within : (p end : ℕ) (ws : List Word) → WordsRise p end ws → (p ≤ end_of p ws) × (end_of p ws ≤ end)
+pub end_within : (p end : ℕ) (ws : List Word) → WordsRise p end ws → (p ≤ end_of p ws) × (end_of p ws ≤ end)
 end_within p end [] h = (omega arith, h)
 end_within p end (w ∷ ws) h = let rest = end_within w.span.end end ws h.2 in (omega (arith, h.0, h.1, rest.0), rest.1)
 

@@ -7,7 +7,7 @@ ghost use Rattle.text_words.specs.JunosCut.{junos_cut};
 ghost use Rattle.text_words.specs.JunosWritten.{JunosLine, may_be_written, junos_text, junos_placed};
 ghost use Rattle.text_words.specs.LineText.{is_line, lines_text, lines_placed};
 ghost use Rattle.text_words.specs.Pieces.{Piece};
-ghost use Rattle.text_words.specs.Rising.{StatementsRise};
+ghost use Rattle.text_words.specs.Rising.{StartsRise, StatementsRise, StatementsStandBehind};
 ghost use Rattle.text_words.specs.RplCut.{rpl_cut};
 ghost use Rattle.text_words.specs.RplText.{RplLine, MayBeWritten, Outside, rpl_text, rpl_placed};
 
@@ -29,4 +29,8 @@ pub fn statements_rise()
     ensures ios { (text : List ℕ) → StatementsRise 0 (length text) (ios_cut text) }
     // The statements of a Junos text that has a cut.
     ensures junos { (text : List ℕ) → IfSome (junos_cut text) (StatementsRise 0 (length text)) }
+    // The statements of an RPL text, where two elements without words may have the span of one comma.
+    ensures rpl { (text : List ℕ) → StatementsStandBehind (record { start = 0; end = 0 }) (length text) (rpl_cut text) }
+    // So their starts rise.
+    ensures rpl_starts { (text : List ℕ) → StartsRise 0 (length text) (rpl_cut text) }
 {}

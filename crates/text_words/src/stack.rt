@@ -1,4 +1,4 @@
-ghost use Rattle.std.specs.Prelude.{◌≡◌, [], ◌∷◌, length, reverse, IfOk, MatchOption};
+ghost use Rattle.std.specs.Prelude.{◌≡◌, [], ◌∷◌, length, reverse, IfNone, IfOk, MatchOption};
 
 use crate::memory::Memory;
 use std::alloc::Global;
@@ -43,7 +43,9 @@ impl<T> Stack<T> {
 
     /// Takes the item on top away; none where there is no item.
     pub fn pop(&mut self) -> Option<T>
-        ensures { MatchOption result (self.old ≡ []) (λ item. self.old ≡ item ∷ self.new) }
+        ensures top { MatchOption result (self.old ≡ []) (λ item. self.old ≡ item ∷ self.new) }
+        // An empty stack stays empty.
+        ensures empty { IfNone result (self.new ≡ []) }
     {
         self.items.pop()
     }
