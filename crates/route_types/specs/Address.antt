@@ -28,6 +28,10 @@ masked_address a n = let block = 2 ^ (width a.family - n) in record { family = a
 abbrev pub prefix_of : Address → ℕ → PrefixParts
 prefix_of a n = record { address = masked_address a n; length = n }
 
+-- an address taken as a prefix of full length
+abbrev pub full_prefix : Address → PrefixParts
+full_prefix a = record { address = a; length = width a.family }
+
 -- the two families are one
 abbrev pub same_family : Family → Family → Bool
 same_family V4 V4 = true

@@ -1,6 +1,6 @@
 ghost use Rattle.std.specs.Prelude.{◌≡◌, ◌-◌, ◌*◌, ◌/◌, ◌^◌, ◌<◌, ◌≤◌};
 ghost use Rattle.route_types.specs.declared.address.Family.TheVariants.{V4};
-ghost use Rattle.route_types.specs.Address.{width, prefix_of, IsMasked, same_family, contains};
+ghost use Rattle.route_types.specs.Address.{width, prefix_of, full_prefix, IsMasked, same_family, contains};
 
 use std::marker::Model;
 
@@ -125,5 +125,15 @@ impl Prefix {
         same_family(self.address.family, inner.address.family)
             && self.length <= inner.length
             && front_bits(self.address.bits, host) == front_bits(inner.address.bits, host)
+    }
+    /// Whether the address lies within this prefix: it is of the same family and agrees with it in the
+    /// first `length` bits. An address with more bits than its family has lies within none.
+    pub fn contains_address(&self, address: &Address) -> bool
+        ensures { result ≡ contains self.now (full_prefix address.now) }
+    {
+        let host = self.host_bits();
+        same_family(self.address.family, address.family)
+            && self.length <= address.family.width()
+            && front_bits(self.address.bits, host) == front_bits(address.bits, host)
     }
 }

@@ -3,12 +3,13 @@ ghost use Rattle.route_types.specs.Community.{set_after};
 ghost use Rattle.route_types.specs.Change.{changed};
 
 use crate::community::{CommChange, set_after};
+use crate::duplicate::Duplicate;
 use crate::route::{NextHop, Origin, Route};
 use std::alloc::Global;
 use text_words::{Memory, Row};
 
 /// A change of one attribute of a route.
-#[derive(Debug, Drop)]
+#[derive(Debug, PartialEq, Eq, Hash, Drop)]
 pub enum Change {
     NextHop(NextHop),
     /// Puts one AS number before the path.
@@ -25,7 +26,7 @@ pub enum Change {
 pub fn apply_change(alloc: Global, route: &Route, change: &Change) -> Result<Route, Memory>
     ensures { IfOk result (λ r. r ≡ changed change.now route.now) }
 {
-    route.copy(alloc)?.changed(alloc, change)
+    route.duplicate(alloc)?.changed(alloc, change)
 }
 
 impl Route {

@@ -28,7 +28,7 @@ impl Community {
 
 /// A rectangle of communities: a range of upper halves and a range of lower halves, both with at
 /// least one number in them.
-#[derive(Clone, Copy, Debug, PartialEq, Eq)]
+#[derive(Clone, Copy, Debug, PartialEq, Eq, PartialOrd, Ord, Hash)]
 pub struct Rect {
     high_least: u16,
     high_most: u16,
@@ -106,7 +106,7 @@ impl Rect {
 }
 
 /// A change of a set of communities: what fits a removed rectangle goes, and what is added comes.
-#[derive(Debug, Drop)]
+#[derive(Debug, PartialEq, Eq, Hash, Drop)]
 pub struct CommChange {
     pub removed: Row<Rect>,
     pub added: Row<Community>,

@@ -9,6 +9,7 @@
 mod address;
 mod change;
 mod community;
+mod duplicate;
 mod fault;
 mod laws;
 mod line_words;
@@ -21,6 +22,7 @@ mod words;
 pub use address::{Address, Family, Prefix};
 pub use change::{Change, apply_change};
 pub use community::{CommChange, Community, Rect, fits_some, unfitted};
+pub use duplicate::Duplicate;
 pub use fault::RouteFault;
 pub use laws::route_texts;
 pub use print::{push_address, push_number, push_prefix};

@@ -8,7 +8,7 @@ use std::marker::Model;
 use text_words::{Memory, Row};
 
 /// The ORIGIN attribute (RFC 4271, section 5.1.1).
-#[derive(Clone, Copy, Debug, PartialEq, Eq)]
+#[derive(Clone, Copy, Debug, PartialEq, Eq, Hash)]
 pub enum Origin {
     Igp,
     Egp,
@@ -16,7 +16,7 @@ pub enum Origin {
 }
 
 /// The next hop (RFC 4271, section 5.1.3): an address, or the router's own one.
-#[derive(Clone, Copy, Debug, PartialEq, Eq)]
+#[derive(Clone, Copy, Debug, PartialEq, Eq, Hash)]
 pub enum NextHop {
     At(Address),
     Own,
@@ -107,21 +107,6 @@ impl Route {
 }
 
 impl Route {
-    pub(crate) fn copy(&self, alloc: Global) -> Result<Route, Memory>
-        ensures { IfOk result (λ r. r ≡ self.now) }
-    {
-        Ok(Route {
-            prefix: self.prefix,
-            next_hop: self.next_hop,
-            path: Row::from_slice(alloc, self.path())?,
-            origin: self.origin,
-            local_preference: self.local_preference,
-            med: self.med,
-            weight: self.weight,
-            communities: Row::from_slice(alloc, self.communities())?,
-        })
-    }
-
     pub(crate) fn with_next_hop(self, next_hop: NextHop) -> Route
         ensures { result ≡ record self { next_hop = next_hop } }
     {
