@@ -1,12 +1,13 @@
-ghost use Rattle.std.specs.Prelude.{◌≡◌, ◌==◌};
+ghost use Rattle.std.specs.Prelude.{◌≡◌, ◌==◌, IfOk};
 ghost use Rattle.std.specs.List.{list_any, list_all};
 ghost use Rattle.route_types.specs.Community.{fits};
 ghost use Rattle.community_sets.specs.Tests.{all_fitted, is_member, same_set, test_holds, list_answers};
 
-use route_types::{Community, Rect, Row};
+use route_types::{Community, Duplicate, Memory, Rect, Row};
+use std::alloc::Global;
 
 /// What an entry asks of the communities of a route.
-#[derive(Debug, Drop)]
+#[derive(Debug, PartialEq, Eq, Hash, Drop)]
 pub enum CommTest {
     /// Each rectangle is fitted by one of the communities.
     AllOf(Row<Rect>),
@@ -15,14 +16,14 @@ pub enum CommTest {
 }
 
 /// An entry of a community list: what it answers where its test holds.
-#[derive(Debug, Drop)]
+#[derive(Debug, PartialEq, Eq, Hash, Drop)]
 pub struct CommEntry {
     pub permit: bool,
     pub test: CommTest,
 }
 
 /// A community list: its entries in the order in which they are tried.
-#[derive(Debug, Drop)]
+#[derive(Debug, PartialEq, Eq, Hash, Drop)]
 pub struct CommList {
     pub entries: Row<CommEntry>,
 }
@@ -86,4 +87,36 @@ pub fn list_holds(list: &CommList, communities: &[Community]) -> bool
     ensures { result ≡ list_answers list.now.entries communities.now }
 {
     first_match(list.entries.as_slice(), communities)
+}
+
+impl Duplicate for CommTest {
+    fn duplicate(&self, alloc: Global) -> Result<CommTest, Memory> {
+        match self {
+            CommTest::AllOf(rects) => {
+                let copied = rects.duplicate(alloc)?;
+                Ok(CommTest::AllOf(copied))
+            }
+            CommTest::Exactly(members) => {
+                let copied = members.duplicate(alloc)?;
+                Ok(CommTest::Exactly(copied))
+            }
+        }
+    }
+}
+
+impl Duplicate for CommEntry {
+    fn duplicate(&self, alloc: Global) -> Result<CommEntry, Memory> {
+        Ok(CommEntry {
+            permit: self.permit,
+            test: self.test.duplicate(alloc)?,
+        })
+    }
+}
+
+impl Duplicate for CommList {
+    fn duplicate(&self, alloc: Global) -> Result<CommList, Memory> {
+        Ok(CommList {
+            entries: self.entries.duplicate(alloc)?,
+        })
+    }
 }

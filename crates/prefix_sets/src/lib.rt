@@ -2,8 +2,10 @@
 //! stands on `route_types`. Its definitions are in `specs/`.
 #![tactic(auto)]
 
+mod hop;
 mod list;
 mod range;
 
+pub use hop::{holds_address, holds_next_hop};
 pub use list::{PrefixEntry, PrefixList, holds};
 pub use range::PrefixRange;

@@ -1,18 +1,19 @@
-ghost use Rattle.std.specs.Prelude.{◌≡◌};
+ghost use Rattle.std.specs.Prelude.{◌≡◌, IfOk};
 ghost use Rattle.prefix_sets.specs.FirstMatch.{first_match};
 
 use crate::range::PrefixRange;
-use route_types::{Family, Prefix, Row};
+use route_types::{Duplicate, Family, Memory, Prefix, Row};
+use std::alloc::Global;
 
 /// An entry of a prefix list: what it answers on the prefixes of its range.
-#[derive(Clone, Copy, Debug, PartialEq, Eq)]
+#[derive(Clone, Copy, Debug, PartialEq, Eq, Hash)]
 pub struct PrefixEntry {
     pub permit: bool,
     pub range: PrefixRange,
 }
 
 /// A prefix list of one family: its entries in the order in which they are tried.
-#[derive(Debug, Drop)]
+#[derive(Debug, PartialEq, Eq, Hash, Drop)]
 pub struct PrefixList {
     pub family: Family,
     pub entries: Row<PrefixEntry>,
@@ -38,4 +39,19 @@ pub fn holds(list: &PrefixList, prefix: &Prefix) -> bool
     ensures { result ≡ first_match list.now.entries prefix.now }
 {
     first_match(list.entries.as_slice(), prefix)
+}
+
+impl Duplicate for PrefixEntry {
+    fn duplicate(&self, _alloc: Global) -> Result<PrefixEntry, Memory> {
+        Ok(*self)
+    }
+}
+
+impl Duplicate for PrefixList {
+    fn duplicate(&self, alloc: Global) -> Result<PrefixList, Memory> {
+        Ok(PrefixList {
+            family: self.family,
+            entries: self.entries.duplicate(alloc)?,
+        })
+    }
 }

@@ -1,7 +1,9 @@
-ghost use Rattle.std.specs.Prelude.{◌≡◌, ◌≤◌};
+ghost use Rattle.std.specs.Prelude.{◌≡◌, ◌≤◌, IfOk};
+ghost use Rattle.route_types.specs.Address.{full_prefix};
 ghost use Rattle.prefix_sets.specs.Range.{in_range};
 
-use route_types::Prefix;
+use route_types::{Address, Duplicate, Memory, Prefix};
+use std::alloc::Global;
 use std::marker::Model;
 
 /// The prefixes within `prefix` whose length is `least` to `most`. `least` is at least the length
@@ -66,5 +68,19 @@ impl PrefixRange {
     {
         let length = prefix.length();
         self.prefix.contains(prefix) && self.least <= length && length <= self.most
+    }
+    /// Whether the address, taken as a prefix of full length, is in the range. No address with more
+    /// bits than its family has is in one.
+    pub fn holds_address(&self, address: &Address) -> bool
+        ensures { result ≡ in_range self.now (full_prefix address.now) }
+    {
+        let width = address.family.width();
+        self.prefix.contains_address(address) && self.least <= width && width <= self.most
+    }
+}
+
+impl Duplicate for PrefixRange {
+    fn duplicate(&self, _alloc: Global) -> Result<PrefixRange, Memory> {
+        Ok(*self)
     }
 }
