@@ -6,6 +6,7 @@
 mod condition;
 mod element;
 mod item;
+mod marks;
 mod number;
 
 pub use condition::{MedTest, RplTest, Term};
