@@ -1,9 +1,10 @@
 -- Worked examples that the checker computes.
-use Rattle.std.proofs.Common.{◌≡◌, refl, [], ◌∷◌, ℕ, Bool, true, false}
+use Rattle.std.proofs.Common.{◌≡◌, refl, List, [], ◌∷◌, ℕ, Bool, true, false}
 use Rattle.route_types.specs.Address.{PrefixParts}
 use Rattle.route_types.specs.declared.address.Family.TheVariants.{V4, V6}
-use Rattle.prefix_sets.specs.Range.{in_range}
+use Rattle.prefix_sets.specs.Range.{RangeParts, in_range}
 use Rattle.prefix_sets.specs.FirstMatch.{first_match}
+use Rattle.prefix_sets.specs.LongestMatch.{longest_match}
 use Rattle.prefix_sets.specs.declared.list.PrefixEntry.{PrefixEntry}
 
 abbrev v4 : ℕ → ℕ → PrefixParts
@@ -37,3 +38,19 @@ whole_is_shorter = refl
 -- a range of IPv6 holds no prefix of IPv4
 other_family : in_range (record { prefix = record { address = record { family = V6; bits = 0 }; length = 0 }; least = 0; most = 128 }) (v4 167772160 8) ≡ false
 other_family = refl
+
+-- of 10.0.0.0/8 orlonger and 10.1.0.0/16 exact the second alone decides on what it contains
+abbrev filters : List RangeParts
+filters = record { prefix = v4 167772160 8; least = 8; most = 32 } ∷ record { prefix = v4 167837696 16; least = 16; most = 16 } ∷ []
+
+longest_decides : longest_match filters (v4 167837696 24) ≡ false
+longest_decides = refl
+
+longest_holds : longest_match filters (v4 167837696 16) ≡ true
+longest_holds = refl
+
+shorter_decides : longest_match filters (v4 167903232 24) ≡ true
+shorter_decides = refl
+
+none_contains : longest_match filters (v4 184549376 8) ≡ false
+none_contains = refl

@@ -1,2 +1,4 @@
 pub mod Range
 pub mod FirstMatch
+pub mod LongestMatch
+pub mod LongestEntries

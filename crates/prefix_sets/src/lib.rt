@@ -4,8 +4,10 @@
 
 mod hop;
 mod list;
+mod longest;
 mod range;
 
 pub use hop::{holds_address, holds_next_hop};
 pub use list::{PrefixEntry, PrefixList, holds};
+pub use longest::from_longest;
 pub use range::PrefixRange;
