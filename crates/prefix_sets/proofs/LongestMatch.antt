@@ -1,8 +1,8 @@
 -- A list of filters, the longest first, each with its range permitted and the rest of its prefix denied, answers as the longest match does.
 use Rattle.std.proofs.Common.{◌≡◌, refl, sym, ap, ◌∙◌, subst, ℕ, suc, ◌+◌, ◌-◌, ◌*◌, ◌/◌, ◌%◌, ◌^◌, ◌<◌, ◌≤◌, ◌⊎◌, inl, inr, Bool, true, false, ◌&&◌, ◌||◌, not, nat_le, List, [], ◌∷◌, ◌++◌, length, cond, arith}
-use Rattle.std.specs.Prelude.{◌==◌, nat_lt, IsTrue, map}
+use Rattle.std.specs.Prelude.{◌==◌, nat_lt, map}
 use Rattle.std.specs.Cmp.{nat_eq_equiv}
-use Rattle.std.specs.List.{All, AllByRecursion, Contains, IsDistinct, list_all, list_any, slice_index_or}
+use Rattle.std.specs.List.{All, AllByRecursion, Contains, IsDistinct, list_any, slice_index_or}
 use Rattle.std.specs.List.Sorted.{IsNonDecreasingBy, IsPermutation, IsSortedByKey}
 use Rattle.std.specs.Ordering.{is_lt, nat_cmp, ordering_then}
 use Rattle.std.specs.declared.cmp.Ordering.{Ordering}
@@ -17,10 +17,10 @@ use Rattle.route_types.proofs.Spelled.{ap2}
 use Rattle.route_types.specs.Address.{PrefixParts, IsMasked, contains, same_family, width}
 use Rattle.route_types.specs.declared.address.Family.{Family}
 use Rattle.route_types.specs.declared.address.Family.TheVariants.{V4, V6}
-use Rattle.prefix_sets.specs.Range.{RangeParts, in_range}
+use Rattle.prefix_sets.specs.Range.{RangeParts}
 use Rattle.prefix_sets.specs.FirstMatch.{first_match}
-use Rattle.prefix_sets.specs.LongestMatch.{AreDistinct, are_of, has_length, is_longest, longest_match, same_prefix}
-use Rattle.prefix_sets.specs.LongestEntries.{IsKeyed, IsRising, deny_entry, entries_of, permit_entries}
+use Rattle.prefix_sets.specs.LongestMatch.{AreDistinct, are_of, has_length, longest_match, same_prefix}
+use Rattle.prefix_sets.specs.LongestEntries.{IsKeyed, IsRising, deny_entry, entries_of}
 use Rattle.prefix_sets.specs.declared.list.PrefixEntry.{PrefixEntry}
 use Rattle.prefix_sets.specs.declared.longest.Keyed.{Keyed}
 
@@ -57,17 +57,25 @@ no_length true true least most n e s t = absurd (let k = le-leb least most (omeg
 no_length true false least most n e s t = refl
 no_length false b least most n e s t = refl
 
+-- the filter's permit entry, if it is made, and what the filter decides, or what is behind it
+abbrev permit_by : Bool → RangeParts → List PrefixEntry
+permit_by some f = elim some [ true ↦ record { permit = true; range = f } ∷ [] | false ↦ [] ]
+
+abbrev decided_or : RangeParts → PrefixParts → Bool → Bool
+decided_or f q rest = elim (contains f.prefix q) [ true ↦ has_length f q | false ↦ rest ]
+
 -- the deny entry holds what the filter's prefix contains
 abbrev DeniesRest : ℕ → PrefixParts → RangeParts → Type 0
 DeniesRest most q f = contains f.prefix q ≡ true → (nat_le f.prefix.length q.length && nat_le q.length most) ≡ true
 
 filter_first : (most : ℕ) (f : RangeParts) (q : PrefixParts) (es : List PrefixEntry) (some : Bool) → nat_le f.least f.most ≡ some → DeniesRest most q f
-    → ◌≡◌ {A = Bool} (first_match ((elim some [ true ↦ record { permit = true; range = f } ∷ [] | false ↦ [] ]) ++ (deny_entry most f ∷ es)) q) (elim (contains f.prefix q) [ true ↦ has_length f q | false ↦ first_match es q ])
+    → first_match (permit_by some f ++ (deny_entry most f ∷ es)) q ≡ decided_or f q (first_match es q)
 unfolding first_match
 filter_first most f q es true e h =
     both_entries (contains f.prefix q) (nat_le f.least q.length) (nat_le q.length f.most) (nat_le f.prefix.length q.length) (nat_le q.length most) (first_match es q) h
 filter_first most f q es false e h =
-    deny_alone (contains f.prefix q) (nat_le f.least q.length) (nat_le q.length f.most) (nat_le f.prefix.length q.length) (nat_le q.length most) (first_match es q) (no_length _ _ f.least f.most q.length e refl refl) h
+    let none = no_length _ _ f.least f.most q.length e refl refl in
+    deny_alone (contains f.prefix q) (nat_le f.least q.length) (nat_le q.length f.most) (nat_le f.prefix.length q.length) (nat_le q.length most) (first_match es q) none h
 
 entries_first : (most : ℕ) (fs : List RangeParts) (q : PrefixParts) → AllByRecursion (DeniesRest most q) fs → first_match (entries_of most fs) q ≡ chosen fs q
 unfolding first_match entries_of
@@ -205,7 +213,10 @@ first_decides f fs q masked behind true e =
     alone true false s = refl
     alone false h s = absurd cc
 first_decides f fs q masked behind false e =
-    ap (λ (c : Bool). ((c && not (list_any (is_longer q f.prefix.length) (f ∷ fs))) && has_length f q) || list_any (λ g. decides q g ((c && nat_lt g.prefix.length f.prefix.length) || list_any (is_longer q g.prefix.length) fs)) fs) e
+    let with_first : Bool → Bool = λ c.
+    let others : RangeParts → Bool = λ g. decides q g ((c && nat_lt g.prefix.length f.prefix.length) || list_any (is_longer q g.prefix.length) fs) in
+    ((c && not (list_any (is_longer q f.prefix.length) (f ∷ fs))) && has_length f q) || list_any others fs in
+    ap with_first e
 
 longest_is_chosen : (fs : List RangeParts) (q : PrefixParts) → AreMasked fs → LongestFirst fs → longest_match fs q ≡ chosen fs q
 longest_is_chosen [] q masked h = refl
@@ -329,7 +340,7 @@ entries_have most ps (f ∷ fs) h =
     with_permit (nat_le f.least f.most) here (All-cons (λ e. Contains ps e.range.prefix) (deny_entry most f) (entries_of most fs) here rest)
   where
     with_permit : (some : Bool) → Contains ps f.prefix → All (λ e. Contains ps e.range.prefix) (deny_entry most f ∷ entries_of most fs)
-        → All (λ e. Contains ps e.range.prefix) ((elim some [ true ↦ record { permit = true; range = f } ∷ [] | false ↦ [] ]) ++ (deny_entry most f ∷ entries_of most fs))
+        → All (λ e. Contains ps e.range.prefix) (permit_by some f ++ (deny_entry most f ∷ entries_of most fs))
     with_permit true here more = All-cons (λ e. Contains ps e.range.prefix) (record { permit = true; range = f }) (deny_entry most f ∷ entries_of most fs) here more
     with_permit false here more = more
 

@@ -1,5 +1,5 @@
 -- The entries of a list that answers by longest match: of each filter, the longest first, its range, and behind it all else of its prefix.
-use Rattle.std.specs.Prelude.{◌≡◌, ℕ, ◌-◌, ◌≤◌, Bool, true, false, nat_le, List, [], ◌∷◌, ◌++◌}
+use Rattle.std.specs.Prelude.{◌≡◌, ℕ, ◌-◌, ◌≤◌, true, false, nat_le, List, [], ◌∷◌, ◌++◌}
 use Rattle.std.specs.List.{AllByRecursion}
 use Rattle.route_types.specs.Address.{width, IsMasked}
 use Rattle.prefix_sets.specs.Range.{RangeParts}

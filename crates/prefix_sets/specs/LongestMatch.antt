@@ -1,5 +1,5 @@
 -- Longest match (Junos OS routing policies, 'route-filter' match conditions): the longest filter that contains a prefix decides alone.
-use Rattle.std.specs.Prelude.{ℕ, Bool, ◌&&◌, not, ◌==◌, nat_le, nat_lt, List}
+use Rattle.std.specs.Prelude.{Bool, ◌&&◌, not, ◌==◌, nat_le, nat_lt, List}
 use Rattle.std.specs.List.{IsDistinct, list_all, list_any}
 use Rattle.route_types.specs.Address.{PrefixParts, contains, same_family}
 use Rattle.route_types.specs.declared.address.Family.{Family}
