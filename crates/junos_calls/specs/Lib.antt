@@ -1,0 +1,4 @@
+pub mod Calls
+pub mod Depth
+pub mod Callees
+pub mod Search
