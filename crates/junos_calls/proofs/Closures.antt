@@ -1,14 +1,12 @@
 -- What a search along calls finds is what is reached.
-use Rattle.std.proofs.Common.{◌≡◌, refl, sym, ap, ◌∙◌, subst, ℕ, Bool, true, false, ◌&&◌, ◌||◌, inl, inr, List, [], ◌∷◌}
-use Rattle.std.specs.Prelude.{bytes_eq, map}
-use Rattle.std.specs.List.{list_any}
-use Rattle.std.proofs.lemmas.Bool.{and_parts}
+use Rattle.std.proofs.Common.{◌≡◌, refl, sym, ap, ◌∙◌, subst, ℕ, Bool, true, false, ◌||◌, inl, inr, List, [], ◌∷◌}
+use Rattle.std.specs.Prelude.{bytes_eq}
 use Rattle.policy_text.specs.NameSets.{has_name}
 use Rattle.junos_calls.specs.Calls.{Link, is_link, has_link, leads, is_reached, leads_to_some}
-use Rattle.junos_calls.specs.Callees.{nows, link_of, links_of, callees_of, Callees, callees_at, swapped}
+use Rattle.junos_calls.specs.Callees.{link_of, links_of, callees_of, Callees, callees_at, swapped}
 use Rattle.junos_calls.specs.declared.call.Call.{Call}
-use Rattle.junos_calls.specs.Search.{Names, among, HasAll, IsClosed, IsClosure}
-use Rattle.junos_calls.proofs.Leads.{or_cases, or_left, or_right, both, and_turned, bytes_refl, bytes_sym, same, same_tests, leads_refl, leads_on, leads_within}
+use Rattle.junos_calls.specs.Search.{Names, among, HasAll, IsClosure}
+use Rattle.junos_calls.proofs.Leads.{or_cases, or_left, or_right, and_turned, bytes_refl, bytes_sym, same, same_tests, leads_refl, leads_on, leads_within}
 
 -- ---- the callees of a policy
 

@@ -1,13 +1,13 @@
 -- The policies at the end of one more call.
 use Rattle.std.proofs.Common.{◌≡◌, refl, sym, ap, ◌∙◌, ℕ, suc, Bool, true, false, ◌&&◌, ◌||◌, List, [], ◌∷◌}
-use Rattle.std.specs.Prelude.{bytes_eq, map}
+use Rattle.std.specs.Prelude.{bytes_eq}
 use Rattle.std.specs.List.{list_any}
-use Rattle.junos_calls.specs.Calls.{Link, is_link, has_link}
+use Rattle.junos_calls.specs.Calls.{Link, has_link}
 use Rattle.junos_calls.specs.Depth.{is_at}
-use Rattle.junos_calls.specs.Callees.{nows, links_of, callees_of, Callees, callees_at}
+use Rattle.junos_calls.specs.Callees.{links_of, callees_of, Callees, callees_at}
 use Rattle.junos_calls.specs.declared.call.Call.{Call}
 use Rattle.junos_calls.specs.Search.{among}
-use Rattle.junos_calls.proofs.Leads.{bytes_sym, and_turned}
+use Rattle.junos_calls.proofs.Leads.{bytes_sym}
 use Rattle.junos_calls.proofs.Closures.{callees_are}
 
 -- a call to q by one of these

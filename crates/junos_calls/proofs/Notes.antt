@@ -1,13 +1,12 @@
 -- Names noted one after the other, and a search that follows the calls of one more.
-use Rattle.std.proofs.Common.{◌≡◌, refl, sym, ap, ◌∙◌, subst, ℕ, zero, suc, ◌+◌, ◌-◌, ◌<◌, ◌≤◌, Bool, true, false, ◌&&◌, ◌||◌, ◌⊎◌, inl, inr, List, [], ◌∷◌, ◌++◌, length, get_or, take, drop, arith}
-use Rattle.std.specs.Prelude.{bytes_eq, ◌==◌, map}
-use Rattle.std.specs.List.{list_any}
+use Rattle.std.proofs.Common.{◌≡◌, refl, sym, ap, ◌∙◌, subst, ℕ, zero, suc, ◌+◌, ◌-◌, ◌<◌, ◌≤◌, Bool, true, false, ◌||◌, ◌⊎◌, inl, inr, List, [], ◌∷◌, ◌++◌, length, get_or, take, drop, arith}
+use Rattle.std.specs.Prelude.{bytes_eq}
 use Rattle.std.proofs.lemmas.List.{map-append, take_all, take-append-le, take_more, append_assoc}
 use Rattle.std.proofs.lemmas.List.Folds.{list_any-append}
 use denote.Ref.{Bor}
 use Rattle.policy_text.specs.NameSets.{has_name, is_key}
 use Rattle.junos_calls.specs.Callees.{nows, Callees, callees_at}
-use Rattle.junos_calls.specs.Search.{Names, among, AreSame, IsNoting, HasAll, IsClosed, IsLeast, IsSearching, IsClosure}
+use Rattle.junos_calls.specs.Search.{Names, among, AreSame, IsNoting, IsSearching, IsClosure}
 use Rattle.junos_calls.proofs.Leads.{or_cases, or_left, or_right, same, bytes_refl}
 
 -- ---- one name

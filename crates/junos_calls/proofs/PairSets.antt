@@ -1,7 +1,6 @@
 -- What an insertion into a set of pairs leaves, and which calls turn back.
-use Rattle.std.proofs.Common.{◌≡◌, refl, sym, ap, ◌∙◌, ℕ, Bool, true, false, cond, ◌&&◌, ◌||◌, List, [], ◌∷◌}
-use Rattle.std.specs.Prelude.{bytes_eq, map}
-use Rattle.std.specs.List.{list_any}
+use Rattle.std.proofs.Common.{◌≡◌, refl, ap, ◌∙◌, ℕ, Bool, true, false, cond, ◌&&◌, ◌||◌, List}
+use Rattle.std.specs.Prelude.{bytes_eq}
 use Rattle.std.specs.Cmp.Lexicographic.{slice_cmp}
 use Rattle.std.specs.Ordering.{is_eq, nat_cmp, ordering_then}
 use Rattle.std.specs.declared.cmp.Ordering.{Ordering}
@@ -9,9 +8,7 @@ use Rattle.std.specs.declared.cmp.Ordering.TheVariants.{Less, Equal, Greater}
 use Rattle.std.specs.BTreeSet.{BTreeSet, UpdatesBy}
 use Rattle.std.proofs.lemmas.Map.Text.{is_eq-slice_cmp}
 use denote.Ref.{Bor}
-use Rattle.junos_calls.specs.Calls.{Link, is_link, leads, turns_back}
-use Rattle.junos_calls.specs.Callees.{link_of, links_of, has_pair}
-use Rattle.junos_calls.specs.declared.call.Call.{Call}
+use Rattle.junos_calls.specs.Callees.{has_pair}
 use Rattle.junos_calls.proofs.Leads.{bytes_sym}
 
 or_from_cond : (b x : Bool) → cond b true x ≡ (b || x)

@@ -1,6 +1,6 @@
 -- Policies that call policies, by their names: which one leads to which. A condition `policy` calls the policies that it
 -- names (Junos OS Routing Policies User Guide, 'Policy Subroutines').
-use Rattle.std.specs.Prelude.{◌≡◌, ℕ, Bool, ◌&&◌, ◌||◌, true, List, [], ◌∷◌, bytes_eq, IsTrue}
+use Rattle.std.specs.Prelude.{◌≡◌, ℕ, Bool, ◌&&◌, ◌||◌, List, [], ◌∷◌, bytes_eq, IsTrue}
 use Rattle.std.specs.List.{list_any}
 
 -- a call: the policy that calls, and the one that is called

@@ -1,10 +1,7 @@
 use Rattle.std.proofs.Common.{arith}
 use Rattle.junos_calls.specs.Callees.{nows}
-use Rattle.junos_calls.proofs.Notes.{search_starts, search_goes, search_ends}
+use Rattle.junos_calls.proofs.Notes.{search_goes, search_ends}
 use Rattle.junos_calls.proofs.search.closure.Goals as goal
-
-pub loop-next-init : goal.loop-next-init
-loop-next-init c = search_starts c.args.callees.now (nows c.args.names.now) c.note_all.new.order.items c.note_all.new.seen c.in_ok-note_all.ensures
 
 pub loop-next-preserved : goal.loop-next-preserved
 loop-next-preserved c =
