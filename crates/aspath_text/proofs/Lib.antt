@@ -69,3 +69,4 @@ pub mod IosReadPassed
 pub mod IosReadOnlyWords
 pub mod IosReadOnlyPieces
 pub mod IosReadOnly
+pub mod PathMatches

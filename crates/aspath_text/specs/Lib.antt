@@ -11,6 +11,7 @@ pub mod IosGrammar
 pub mod JunosGrammar
 pub mod Rows
 pub mod Finds
+pub mod PathMatches
 pub mod Printing
 pub mod IosRead
 pub mod IosWalk

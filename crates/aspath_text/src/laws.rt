@@ -3,8 +3,10 @@ ghost use Rattle.std.specs.Bool.{Decides};
 ghost use Rattle.aspath_text.specs.Finds.{finds_in};
 ghost use Rattle.aspath_text.specs.IosGrammar.{SpellsPattern};
 ghost use Rattle.aspath_text.specs.IosRead.{ios_pattern_in};
+ghost use Rattle.aspath_text.specs.Items.{Matches};
 ghost use Rattle.aspath_text.specs.JunosGrammar.{SpellsJunos};
 ghost use Rattle.aspath_text.specs.JunosRead.{junos_pattern_in};
+ghost use Rattle.aspath_text.specs.PathMatches.{path_matches};
 ghost use Rattle.aspath_text.specs.Search.{Found};
 ghost use Rattle.aspath_text.specs.Shape.{IsShaped};
 ghost use Rattle.aspath_text.specs.declared.items.TokenPattern.{TokenPattern};
@@ -35,4 +37,10 @@ pub fn junos_patterns()
 /// function answers true exactly where the pattern is found in the text of the path.
 pub fn path_searches()
     ensures { (bs : List IosBranch) (path : List ℕ) → Decides (finds_in bs path) (Found bs path) }
+{}
+
+/// The law of the function that matches; its clause is all that it does. For every pattern of items and
+/// path the function answers true exactly where the items of some branch take the whole path.
+pub fn path_items()
+    ensures { (p : TokenPattern) (path : List ℕ) → Decides (path_matches p path) (Matches p path) }
 {}

@@ -8,7 +8,8 @@
 //! the other files are ways to them.
 //!
 //! That a text spells what is found in it, and nothing else, is the law of the functions `ios_patterns` and
-//! `junos_patterns`; that `finds_in` is true exactly where a pattern is found is that of `path_searches`.
+//! `junos_patterns`; that `finds_in` is true exactly where a pattern is found is that of `path_searches`,
+//! and that `path_matches` is true exactly where items match that of `path_items`.
 //! Besides, crates above may cite these laws of `proofs/`: `FoundTaken`, that a pattern is found exactly
 //! where the numbers of the path are taken; `RowsFind`, that rows over the path tell the same.
 #![tactic(auto)]
@@ -28,6 +29,7 @@ mod junos_words;
 mod laws;
 mod merged;
 mod pattern;
+mod pattern_words;
 mod piece_rows;
 mod range_words;
 mod row_steps;
@@ -41,9 +43,10 @@ pub use ios_read::read_ios_pattern;
 pub use items::{NumberRange, NumberSet, TokenBranch, TokenItem, TokenPattern};
 pub use junos_print::print_junos;
 pub use junos_read::read_junos_pattern;
-pub use laws::{ios_patterns, junos_patterns, path_searches};
+pub use laws::{ios_patterns, junos_patterns, path_items, path_searches};
 pub use pattern::{
     DigitSet, DigitWord, IosBranch, IosPattern, Mark, PathPieces, Piece, PieceSet, Repeat, Tail,
 };
+pub use pattern_words::{IosPatternWord, JunosPatternWord};
 pub use rows::{finds, matches};
 pub use token_form::tokens;

@@ -2,6 +2,7 @@ ghost use Rattle.std.specs.Prelude.{◌≡◌, IfOk, map};
 ghost use Rattle.std.specs.Bool.{Decides};
 ghost use Rattle.aspath_text.specs.Finds.{finds_in};
 ghost use Rattle.aspath_text.specs.Items.{in_set, takes_of, Matches};
+ghost use Rattle.aspath_text.specs.PathMatches.{path_matches};
 ghost use Rattle.aspath_text.specs.Rows.{fits_along, start_row, rows_behind, takes_all, pattern_takes, branches_take};
 ghost use Rattle.aspath_text.specs.Search.{Found};
 
@@ -14,9 +15,10 @@ use std::alloc::Global;
 
 /// Whether some branch of the pattern matches the whole path, in time proportional to the items times
 /// the length of the path. Its one error is want of memory.
-#[tactic(auto, using(crate::proofs::RowLaws::pattern_decides))]
+#[tactic(auto, using(crate::proofs::RowLaws::pattern_decides, crate::proofs::PathMatches::rows_match))]
 pub fn matches(alloc: Global, pattern: &TokenPattern, path: &[u32]) -> Result<bool, Memory>
-    ensures { IfOk result (λ answer. Decides answer (Matches pattern.now path.now)) }
+    ensures matched { IfOk result (λ answer. Decides answer (Matches pattern.now path.now)) }
+    ensures exact { IfOk result (λ answer. answer ≡ path_matches pattern.now path.now) }
 {
     pattern_takes(alloc, pattern, path)
 }

@@ -1,5 +1,7 @@
 ghost use Rattle.std.specs.Prelude.{◌≡◌, IfOk, List, ℕ, [], ◌∷◌, ◌++◌, ◌↔◌, map};
+ghost use Rattle.aspath_text.specs.Finds.{finds_in};
 ghost use Rattle.aspath_text.specs.Items.{IsPath, Matches};
+ghost use Rattle.aspath_text.specs.PathMatches.{path_matches};
 ghost use Rattle.aspath_text.specs.Search.{Found};
 ghost use Rattle.aspath_text.specs.TokenForm.{all_numbers, any_item, set_item, tail_item, later_items, pieces_items, mark_items, branch_items, branches_items, token_form};
 ghost use Rattle.aspath_text.specs.DigitRanges.{set_of_words};
@@ -13,9 +15,10 @@ use std::alloc::Global;
 
 /// The items that match a path exactly where the pattern is found in its text. Its one error is want of
 /// memory.
-#[tactic(auto, using(crate::proofs::TokensFound::tokens_found))]
+#[tactic(auto, using(crate::proofs::TokensFound::tokens_found, crate::proofs::PathMatches::tokens_match))]
 pub fn tokens(alloc: Global, pattern: &IosPattern) -> Result<TokenPattern, Memory>
-    ensures { IfOk result (λ t. (path : List ℕ) → IsPath path → Matches t path ↔ Found pattern.now path) }
+    ensures found { IfOk result (λ t. (path : List ℕ) → IsPath path → Matches t path ↔ Found pattern.now path) }
+    ensures exact { IfOk result (λ t. (path : List ℕ) → IsPath path → path_matches t path ≡ finds_in pattern.now path) }
 {
     token_form(alloc, pattern.branches())
 }
