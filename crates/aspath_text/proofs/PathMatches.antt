@@ -1,12 +1,12 @@
 -- The function that matches a path answers by the relation, and as the rows and the search do.
-use Rattle.std.proofs.Common.{◌≡◌, refl, sym, ap, subst, ◌∙◌, ℕ, zero, suc, ◌-◌, ◌≤◌, ◌<◌, Bool, true, ◌&&◌, ◌||◌, nat_le, List, [], ◌∷◌, ◌++◌, length, Option, Some, None, map, arith, inl, inr, ◌⊎◌}
+use Rattle.std.proofs.Common.{◌≡◌, refl, sym, ap, subst, ℕ, suc, ◌-◌, ◌≤◌, Bool, true, false, ◌&&◌, ◌||◌, nat_le, List, [], ◌∷◌, ◌++◌, length, Option, Some, None, map, arith, inl, inr, ◌⊎◌}
 use Rattle.std.specs.Bool.{Decides}
 use Rattle.std.specs.List.{list_all}
 use Rattle.std.proofs.lemmas.Bool.{and_parts, and_from, leb-true, le-leb}
-use Rattle.std.proofs.lemmas.Bool.Decides.{Decides-and, Decides-or, Decides-like, same_from_decides}
+use Rattle.std.proofs.lemmas.Bool.Decides.{Decides-like, same_from_decides}
 use Rattle.aspath_text.specs.Finds.{finds_in}
 use Rattle.aspath_text.specs.Items.{IsPath, Takes, AtMost, Taken, takes_of, BranchMatches, Matches}
-use Rattle.aspath_text.specs.PathMatches.{no_number, has_room, one_fewer, front_fits, whole_path, path_matches}
+use Rattle.aspath_text.specs.PathMatches.{has_room, one_fewer, front_fits, whole_path, path_matches}
 use Rattle.aspath_text.specs.Rows.{pattern_takes}
 use Rattle.aspath_text.specs.Shape.{IsShaped}
 use Rattle.aspath_text.specs.TokenForm.{token_form}
@@ -35,30 +35,46 @@ room_for_more : (n : ℕ) (most : Option ℕ) → AtMost (suc n) most → (has_r
 room_for_more n None h = (refl, tt)
 room_for_more n (Some most) h = (le-leb 1 most (omega (arith, h)), omega (arith, h))
 
+-- the first number is not taken, or it is
+first_by : (f : ℕ → Bool) (k : List ℕ → Bool) (K : List ℕ → Type 0) → ((rest : List ℕ) → Decides (k rest) (K rest)) → (n : ℕ) (ns : List ℕ) (least : ℕ) (most : Option ℕ) (more : Bool)
+    → (more ≡ true → FrontTaken f (least - 1) (one_fewer most) K ns) → ((nat_le least 0 && k (n ∷ ns)) ≡ true) ⊎ ((has_room most && (f n && more)) ≡ true) → FrontTaken f least most K (n ∷ ns)
+first_by f k K d n ns least most more taken (inl h) =
+    let a = and_parts (nat_le least 0) (k (n ∷ ns)) h in
+    ([], n ∷ ns, refl, refl, (leb-true least 0 a.0, none_at_most most), (d (n ∷ ns)).0 a.1)
+first_by f k K d n ns least most more taken (inr h) =
+    let a = and_parts (has_room most) (f n && more) h in
+    let b = and_parts (f n) more a.1 in
+    let t = taken b.1 in
+    let low : least - 1 ≤ length t.0 = t.4.0 in
+    (n ∷ t.0, t.1, ap (λ (x : List ℕ). n ∷ x) t.2, and_from (f n) (list_all f t.0) b.0 t.3, (omega (arith, low), more_at_most (length t.0) most a.0 t.4.1), t.5)
+
+-- one of two tests holds
+one_of_two : (x y : Bool) → (x || y) ≡ true → (x ≡ true) ⊎ (y ≡ true)
+one_of_two true y e = inl refl
+one_of_two false y e = inr e
+
+first_or : (x y : Bool) → x ≡ true → (x || y) ≡ true
+first_or true y e = refl
+first_or false y e = absurd cc
+
+second_or : (x y : Bool) → y ≡ true → (x || y) ≡ true
+second_or true y e = refl
+second_or false y e = e
+
 front_to : (f : ℕ → Bool) (k : List ℕ → Bool) (K : List ℕ → Type 0) → ((rest : List ℕ) → Decides (k rest) (K rest)) → (path : List ℕ) (least : ℕ) (most : Option ℕ) → front_fits f least most k path ≡ true → FrontTaken f least most K path
 unfolding front_fits
 front_to f k K d [] least most e =
     let a = and_parts (nat_le least 0) (k []) e in
     ([], [], refl, refl, (leb-true least 0 a.0, none_at_most most), (d []).0 a.1)
 front_to f k K d (n ∷ ns) least most e =
-    either ((Decides-or (nat_le least 0 && k (n ∷ ns)) (has_room most && (f n && front_fits f (least - 1) (one_fewer most) k ns)) (λ h. h, λ h. h) (λ h. h, λ h. h)).0 e)
-  where
-    either : ((nat_le least 0 && k (n ∷ ns)) ≡ true) ⊎ ((has_room most && (f n && front_fits f (least - 1) (one_fewer most) k ns)) ≡ true) → FrontTaken f least most K (n ∷ ns)
-    either (inl h) =
-        let a = and_parts (nat_le least 0) (k (n ∷ ns)) h in
-        ([], n ∷ ns, refl, refl, (leb-true least 0 a.0, none_at_most most), (d (n ∷ ns)).0 a.1)
-    either (inr h) =
-        let a = and_parts (has_room most) (f n && front_fits f (least - 1) (one_fewer most) k ns) h in
-        let b = and_parts (f n) (front_fits f (least - 1) (one_fewer most) k ns) a.1 in
-        let t = front_to f k K d ns (least - 1) (one_fewer most) b.1 in
-        let low : least - 1 ≤ length t.0 = t.4.0 in
-        (n ∷ t.0, t.1, ap (λ (x : List ℕ). n ∷ x) t.2, and_from (f n) (list_all f t.0) b.0 t.3, (omega (arith, low), more_at_most (length t.0) most a.0 t.4.1), t.5)
+    first_by f k K d n ns least most (front_fits f (least - 1) (one_fewer most) k ns) (front_to f k K d ns (least - 1) (one_fewer most))
+    (one_of_two (nat_le least 0 && k (n ∷ ns)) (has_room most && (f n && front_fits f (least - 1) (one_fewer most) k ns)) e)
 
 front_here : (f : ℕ → Bool) (k : List ℕ → Bool) (rest : List ℕ) (least : ℕ) (most : Option ℕ) → nat_le least 0 ≡ true → k rest ≡ true → front_fits f least most k rest ≡ true
 unfolding front_fits
 front_here f k [] least most e h = and_from (nat_le least 0) (k []) e h
 front_here f k (n ∷ ns) least most e h =
-    (Decides-or (nat_le least 0 && k (n ∷ ns)) (has_room most && (f n && front_fits f (least - 1) (one_fewer most) k ns)) (λ h. h, λ h. h) (λ h. h, λ h. h)).1 (inl (and_from (nat_le least 0) (k (n ∷ ns)) e h))
+    first_or (nat_le least 0 && k (n ∷ ns)) (has_room most && (f n && front_fits f (least - 1) (one_fewer most) k ns)) (and_from (nat_le least 0) (k (n ∷ ns)) e h)
 
 front_from : (f : ℕ → Bool) (k : List ℕ → Bool) (front rest : List ℕ) (least : ℕ) (most : Option ℕ) → list_all f front ≡ true → least ≤ length front → AtMost (length front) most → k rest ≡ true → front_fits f least most k (front ++ rest) ≡ true
 unfolding front_fits
@@ -67,8 +83,8 @@ front_from f k (n ∷ ns) rest least most e low high h =
     let a = and_parts (f n) (list_all f ns) e in
     let r = room_for_more (length ns) most high in
     let b = front_from f k ns rest (least - 1) (one_fewer most) a.1 (omega (arith, low)) r.1 h in
-    (Decides-or (nat_le least 0 && k (n ∷ (ns ++ rest))) (has_room most && (f n && front_fits f (least - 1) (one_fewer most) k (ns ++ rest))) (λ h. h, λ h. h) (λ h. h, λ h. h)).1
-    (inr (and_from (has_room most) (f n && front_fits f (least - 1) (one_fewer most) k (ns ++ rest)) r.0 (and_from (f n) (front_fits f (least - 1) (one_fewer most) k (ns ++ rest)) a.0 b)))
+    second_or (nat_le least 0 && k (n ∷ (ns ++ rest))) (has_room most && (f n && front_fits f (least - 1) (one_fewer most) k (ns ++ rest)))
+    (and_from (has_room most) (f n && front_fits f (least - 1) (one_fewer most) k (ns ++ rest)) r.0 (and_from (f n) (front_fits f (least - 1) (one_fewer most) k (ns ++ rest)) a.0 b))
 
 front_decides : (f : ℕ → Bool) (least : ℕ) (most : Option ℕ) (k : List ℕ → Bool) (K : List ℕ → Type 0) → ((rest : List ℕ) → Decides (k rest) (K rest)) → (path : List ℕ) → Decides (front_fits f least most k path) (FrontTaken f least most K path)
 front_decides f least most k K d path = (

@@ -1,6 +1,6 @@
 -- Whether items match a path, as a function (Junos OS Routing Policies User Guide, 'AS path regular
 -- expressions'). `Items` states the same as a relation.
-use Rattle.std.specs.Prelude.{ℕ, ◌-◌, ◌==◌, Bool, true, false, ◌&&◌, ◌||◌, nat_le, List, [], ◌∷◌, Option, Some, None, map}
+use Rattle.std.specs.Prelude.{ℕ, ◌-◌, Bool, true, false, ◌&&◌, ◌||◌, nat_le, List, [], ◌∷◌, Option, Some, None, map}
 use Rattle.std.specs.List.{list_any}
 use Rattle.aspath_text.specs.Items.{Takes, takes_of}
 use Rattle.aspath_text.specs.declared.items.TokenPattern.{TokenPattern}

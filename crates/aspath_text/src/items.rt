@@ -4,21 +4,21 @@ ghost use Rattle.aspath_text.specs.Items.{in_range, in_set};
 use route_types::Row;
 
 /// The AS numbers from `least` to `most`, both of them included; none where `least` is above `most`.
-#[derive(Clone, Copy, Debug, PartialEq, Eq)]
+#[derive(Clone, Copy, Debug, PartialEq, Eq, Hash)]
 pub struct NumberRange {
     pub least: u32,
     pub most: u32,
 }
 
 /// A set of AS numbers: those of its ranges, which stand in any order and may overlap.
-#[derive(Debug, Drop)]
+#[derive(Debug, PartialEq, Eq, Hash, Drop)]
 pub struct NumberSet {
     pub ranges: Row<NumberRange>,
 }
 
 /// Takes `least` to `most` numbers of a path, one after the other, each of them in the set. `None` is
 /// no upper end; where `most` is below `least` no count of numbers is taken.
-#[derive(Debug, Drop)]
+#[derive(Debug, PartialEq, Eq, Hash, Drop)]
 pub struct TokenItem {
     pub set: NumberSet,
     pub least: u32,
@@ -26,13 +26,13 @@ pub struct TokenItem {
 }
 
 /// Items that together take a whole path, each in its turn.
-#[derive(Debug, Drop)]
+#[derive(Debug, PartialEq, Eq, Hash, Drop)]
 pub struct TokenBranch {
     pub items: Row<TokenItem>,
 }
 
 /// A pattern over the numbers of a path: it matches a path where some branch takes the whole path.
-#[derive(Debug, Drop)]
+#[derive(Debug, PartialEq, Eq, Hash, Drop)]
 pub struct TokenPattern {
     pub branches: Row<TokenBranch>,
 }

@@ -16,6 +16,7 @@
 
 mod counts;
 mod digit_ranges;
+mod duplicate;
 mod fault;
 mod ios_print;
 mod ios_read;

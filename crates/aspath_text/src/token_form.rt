@@ -17,6 +17,7 @@ use std::alloc::Global;
 /// memory.
 #[tactic(auto, using(crate::proofs::TokensFound::tokens_found, crate::proofs::PathMatches::tokens_match))]
 pub fn tokens(alloc: Global, pattern: &IosPattern) -> Result<TokenPattern, Memory>
+    ensures form { IfOk result (λ t. t ≡ token_form pattern.now) }
     ensures found { IfOk result (λ t. (path : List ℕ) → IsPath path → Matches t path ↔ Found pattern.now path) }
     ensures exact { IfOk result (λ t. (path : List ℕ) → IsPath path → path_matches t path ≡ finds_in pattern.now path) }
 {
