@@ -1,0 +1,5 @@
+-- What the checker computes, and the laws that the answers cite.
+mod Examples
+pub mod Faults
+pub mod Rise
+pub mod Nests
