@@ -6,6 +6,7 @@ use Rattle.route_types.specs.Community.{RectParts}
 use Rattle.route_types.specs.declared.community.Community.{Community}
 use Rattle.route_types.specs.declared.route.Origin.{Origin}
 use Rattle.route_types.specs.declared.route.Origin.TheVariants.{Igp, Incomplete}
+use Rattle.policy_text.specs.CommonWords.{community_of_bits, known_communities}
 use Rattle.policy_text.specs.Names.{is_name, first_some}
 use Rattle.policy_text.specs.Phrases.{one_of}
 
@@ -45,13 +46,9 @@ origins = (codes "igp", Igp) ∷ (codes "incomplete", Incomplete) ∷ []
 unfoldable pub origin_in : List ℕ → Option Origin
 origin_in word = one_of origins word
 
--- the community of 32 bits
-abbrev pub community_of_bits : ℕ → Community
-community_of_bits bits = record { 0 = bits }
-
--- the communities that have a word of their own (RFC 1997; `local-AS` is NO_EXPORT_SUBCONFED)
-abbrev pub known_communities : List (List ℕ × Community)
-known_communities = (codes "no-export", community_of_bits 4294967041) ∷ (codes "no-advertise", community_of_bits 4294967042) ∷ (codes "local-AS", community_of_bits 4294967043) ∷ []
+-- the communities that have a word of their own
+abbrev pub ios_communities : List (List ℕ × Community)
+ios_communities = known_communities (codes "local-AS")
 
 -- a community as one number, its 32 bits
 abbrev pub whole_community : List ℕ → Option Community
@@ -61,7 +58,7 @@ whole_community word = do
 
 -- the community that a word spells: `a:b`, a word of its own, or one number
 unfoldable pub community_word_in : List ℕ → Option Community
-community_word_in word = first_some (community_in word) (first_some (one_of known_communities word) (whole_community word))
+community_word_in word = first_some (community_in word) (first_some (one_of ios_communities word) (whole_community word))
 
 -- the numbers that half of an expanded entry asks for: one, or all of them
 abbrev pub half_in : List ℕ → Option (ℕ × ℕ)

@@ -11,7 +11,7 @@ use Rattle.policy_text.specs.Names.{is_name}
 use Rattle.policy_text.specs.Bounds.{SpellBounds}
 use Rattle.policy_text.specs.Phrases.{Behind, One, First, Optional, AreSome, IsOneOf, IsNameWord}
 use Rattle.aspath_text.specs.IosGrammar.{SpellsPattern}
-use Rattle.ios_tree.specs.Names.{list_name, actions, known_communities, origins}
+use Rattle.ios_tree.specs.Names.{list_name, actions, ios_communities, origins}
 use Rattle.ios_tree.specs.Forms.{is_written, written_number}
 use Rattle.ios_tree.specs.declared.item.IosForm.{IosForm}
 use Rattle.ios_tree.specs.declared.item.IosForm.TheVariants.{PrefixEntry, PrefixDescription, CommunityEntry, PathEntry, MapHeader, Line, Other}
@@ -33,7 +33,7 @@ pub record IsListWord (word list : List ℕ) : Type 0 where
 -- a community: `a:b`, a word of its own, or one number up to 2^32 - 1, which is its bits
 abbrev pub IsCommunityWord : List ℕ → Community → Type 0
 IsCommunityWord word c =
-    IsCommunity word c ⊎ IsOneOf known_communities word c ⊎ IsNumber (2 ^ 32 - 1) word c.0
+    IsCommunity word c ⊎ IsOneOf ios_communities word c ⊎ IsNumber (2 ^ 32 - 1) word c.0
 
 -- half of an expanded entry: one number, or `[0-9]+` for all
 abbrev pub IsHalf : List ℕ → ℕ → ℕ → Type 0

@@ -6,7 +6,7 @@ ghost use Rattle.ios_tree.specs.Forms.{with_option, none_in, communities_in, fol
 ghost use Rattle.ios_tree.specs.Names.{list_in};
 
 use crate::item::{CommunityMatch, CommunitySetting, MapLine, PathMatch, PrefixMatch};
-use crate::words::{CommunityWord, ListWord, OriginWord, PathNumber, option_in};
+use crate::words::{CommunityWord, ListWord, PathNumber, SetOriginWord, option_in};
 use policy_text::{
     AddressWord, Number16, Number32, Number64, Reads, Word, after, is, one_behind, one_word,
     some_behind, some_words,
@@ -188,7 +188,7 @@ fn set_value_in(alloc: Global, words: &[Word]) -> Result<Option<MapLine>, Memory
     if let Some(line) = set_number_in(alloc, words)? {
         return Ok(Some(line));
     }
-    if let Some(origin) = one_behind::<Origin, OriginWord>(alloc, words, &[b"set", b"origin"])? {
+    if let Some(origin) = one_behind::<Origin, SetOriginWord>(alloc, words, &[b"set", b"origin"])? {
         return Ok(Some(MapLine::SetOrigin(origin)));
     }
     let keys: &[&[u8]] = &[b"set", b"ip", b"next-hop"];

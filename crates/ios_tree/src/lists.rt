@@ -10,10 +10,10 @@ use crate::item::{
     PrefixListEntry,
 };
 use crate::words::{
-    ActionWord, CommunityWord, ExpandedNumber, ListWord, PathNumber, PatternWord, ShapeWord,
-    StandardNumber, permit_in,
+    ActionWord, CommunityWord, ExpandedNumber, ListWord, PathNumber, ShapeWord, StandardNumber,
+    permit_in,
 };
-use aspath_text::IosPattern;
+use aspath_text::{IosPattern, IosPatternWord};
 use policy_text::{
     NameWord, Number64, Reads, Word, after, bounds, one_word, optional_at, read_prefix, some_words,
     value_at,
@@ -233,7 +233,7 @@ pub(crate) fn path_entry_in(alloc: Global, words: &[Word]) -> Result<Option<IosF
     let Some((list, permit, rest)) = head_in::<PathNumber>(alloc, words, keys)? else {
         return Ok(None);
     };
-    let Some(pattern) = one_word::<IosPattern, PatternWord>(alloc, rest)? else {
+    let Some(pattern) = one_word::<IosPattern, IosPatternWord>(alloc, rest)? else {
         return Ok(None);
     };
     Ok(Some(IosForm::PathEntry(PathListEntry {

@@ -1,15 +1,16 @@
-//! The kinds of words that IOS has: names of lists, actions, origins, communities, shapes and patterns.
+//! The kinds of words that IOS has: names of lists, actions, origins, communities and shapes.
 
 ghost use Rattle.std.specs.Prelude.{◌≡◌, ◌≤◌, ◌-◌, ◌^◌, IfOk, IfSome};
 ghost use Rattle.std.specs.List.{list_all};
-ghost use Rattle.policy_text.specs.Phrases.{texts, one_of};
-ghost use Rattle.route_types.specs.Words.{is_digit, number_in};
-ghost use Rattle.aspath_text.specs.IosRead.{ios_pattern_in};
+ghost use Rattle.policy_text.specs.Phrases.{texts};
+ghost use Rattle.route_types.specs.Words.{is_digit};
 ghost use Rattle.ios_tree.specs.Forms.{option_in};
-ghost use Rattle.ios_tree.specs.Names.{without_zeros, list_name, list_in, numbered_list_in, permit_in, origin_in, known_communities, whole_community, community_word_in, half_in, shape_in};
+ghost use Rattle.ios_tree.specs.Names.{without_zeros, list_name, list_in, numbered_list_in, permit_in, origin_in, whole_community, community_word_in, half_in, shape_in};
 
-use aspath_text::{IosPattern, PatternFault, read_ios_pattern};
-use policy_text::{Reads, Word, copied, is, is_name, parts_at, read_community, read_number};
+use policy_text::{
+    Reads, Word, copied, is, is_name, known_community, number_of_16_bits, number_of_32_bits,
+    parts_at, read_community, read_number,
+};
 use route_types::{Community, Memory, Origin, Rect, Row};
 use std::alloc::Global;
 
@@ -135,10 +136,10 @@ impl Reads<bool> for ActionWord {
     }
 }
 
-/// `igp` or `incomplete`.
-pub(crate) struct OriginWord;
+/// An origin that can be set: `igp` or `incomplete`.
+pub(crate) struct SetOriginWord;
 
-impl Reads<Origin> for OriginWord {
+impl Reads<Origin> for SetOriginWord {
     ghost find = { origin_in };
 
     #[tactic(auto, unfolding(crate::specs::Names::origin_in))]
@@ -155,33 +156,10 @@ impl Reads<Origin> for OriginWord {
 
 // ---- communities
 
-fn known_community(word: &[u8]) -> Option<Community>
-    ensures { result ≡ one_of known_communities word.now }
-{
-    if word == b"no-export".as_slice() {
-        return Some(Community(4294967041));
-    }
-    if word == b"no-advertise".as_slice() {
-        return Some(Community(4294967042));
-    }
-    if word == b"local-AS".as_slice() {
-        return Some(Community(4294967043));
-    }
-    None
-}
-
-#[tactic(auto, using(route_types::proofs::Numbers::number_in_within))]
-fn bits_in(word: &[u8]) -> Option<u32>
-    ensures { result ≡ number_in (2 ^ 32 - 1) word.now }
-{
-    let bits = read_number(word, 4294967295)?;
-    Some(bits as u32)
-}
-
 fn whole_community(word: &[u8]) -> Option<Community>
     ensures { result ≡ whole_community word.now }
 {
-    Some(Community(bits_in(word)?))
+    Some(Community(number_of_32_bits(word)?))
 }
 
 #[tactic(auto, unfolding(crate::specs::Names::community_word_in))]
@@ -191,7 +169,7 @@ fn community_in(word: &[u8]) -> Option<Community>
     if let Some(community) = read_community(word) {
         return Some(community);
     }
-    if let Some(community) = known_community(word) {
+    if let Some(community) = known_community(word, b"local-AS") {
         return Some(community);
     }
     whole_community(word)
@@ -208,22 +186,14 @@ impl Reads<Community> for CommunityWord {
     }
 }
 
-// ---- shapes and patterns
-
-#[tactic(auto, using(route_types::proofs::Numbers::number_in_within))]
-fn number_in(word: &[u8]) -> Option<u16>
-    ensures { result ≡ number_in 65535 word.now }
-{
-    let number = read_number(word, 65535)?;
-    Some(number as u16)
-}
+// ---- shapes
 
 // The numbers that half of an expanded entry asks for: one, or all of them.
 fn half_in(word: &[u8]) -> Option<(u16, u16)>
     ensures value { result ≡ half_in word.now }
     ensures within { IfSome result (λ h. h.0 ≤ h.1) }
 {
-    if let Some(number) = number_in(word) {
+    if let Some(number) = number_of_16_bits(word) {
         return Some((number, number));
     }
     if word == b"[0-9]+".as_slice() {
@@ -255,21 +225,6 @@ impl Reads<Rect> for ShapeWord {
 
     fn read(_alloc: Global, word: &[u8]) -> Result<Option<Rect>, Memory> {
         Ok(shape_in(word))
-    }
-}
-
-/// The pattern of a path list.
-pub(crate) struct PatternWord;
-
-impl Reads<IosPattern> for PatternWord {
-    ghost find = { ios_pattern_in };
-
-    fn read(alloc: Global, word: &[u8]) -> Result<Option<IosPattern>, Memory> {
-        match read_ios_pattern(alloc, word) {
-            Ok(pattern) => Ok(Some(pattern)),
-            Err(PatternFault::NotShaped) => Ok(None),
-            Err(PatternFault::Memory) => Err(Memory),
-        }
     }
 }
 

@@ -1,10 +1,9 @@
 -- The entries of lists and the headers of route-maps, both ways: a form that is found is spelled by the
 -- words, and what is spelled is found.
-use Rattle.std.proofs.Common.{◌≡◌, refl, sym, ap, ◌∙◌, subst, ℕ, ◌-◌, ◌^◌, ◌≤◌, ◌<◌, Bool, true, false, List, [], ◌∷◌, ◌++◌, Option, Some, None, arith, inl, inr, ◌⊎◌, lit<}
-use Rattle.std.specs.Prelude.{codes, decimal, bytes_eq, option_map, nat_le}
-use Rattle.std.proofs.lemmas.Bool.{lt-leb}
+use Rattle.std.proofs.Common.{◌≡◌, refl, sym, ap, ◌∙◌, subst, ℕ, ◌-◌, ◌^◌, ◌≤◌, ◌<◌, Bool, false, List, [], ◌∷◌, ◌++◌, Option, Some, None, arith, inl, inr, lit<}
+use Rattle.std.specs.Prelude.{codes, decimal, bytes_eq, option_map}
 use Rattle.route_types.specs.Community.{RectParts}
-use Rattle.route_types.specs.Words.{◌>>=◌, when, is_digit, number_in, prefix_in, IsNumber}
+use Rattle.route_types.specs.Words.{is_digit, number_in, prefix_in, IsNumber}
 use Rattle.route_types.specs.declared.address.Family.{Family}
 use Rattle.route_types.specs.declared.address.Family.TheVariants.{V4}
 use Rattle.route_types.specs.declared.community.Community.{Community}
@@ -13,7 +12,6 @@ use Rattle.route_types.proofs.Printed.{prefix_in_plain}
 use Rattle.route_types.proofs.Spelled.{ap2}
 use Rattle.prefix_sets.specs.declared.list.PrefixEntry.{PrefixEntry as Entry}
 use Rattle.policy_text.specs.Bounds.{bounds_in}
-use Rattle.policy_text.specs.Names.{first_some}
 use Rattle.policy_text.specs.Phrases.{Agrees, IsOneOf, IsNameWord, One, Optional, name_in, after, behind, only, value_at, first_of, optional, some_each}
 use Rattle.policy_text.proofs.Phrases.{after_found, after_spelled, first_found, no_keyword, bytes_sym}
 use Rattle.policy_text.proofs.Agree.{one_agrees, some_agrees, behind_agrees, first_agrees, optional_agrees, made_found, made_only}
@@ -24,7 +22,6 @@ use Rattle.aspath_text.specs.IosGrammar.{SpellsPattern}
 use Rattle.aspath_text.specs.IosRead.{ios_pattern_in}
 use Rattle.ios_tree.specs.Names.{actions, permit_in, list_in, numbered_list_in, community_word_in, shape_in}
 use Rattle.ios_tree.specs.Reading.{SpellsAs}
-use Rattle.ios_tree.specs.Sorts.{sort_of_form}
 use Rattle.ios_tree.specs.Spelling.{IsListNumber, IsPathListWord, AreCommunities, IsShape, SpellEntry, SpellRange, SpellRangeOr, SpellPrefixList, SpellPrefixEntry, SpellPrefixDescription, SpellCommunityEntry, Spell}
 use Rattle.ios_tree.specs.declared.item.CommunityShape.{CommunityShape}
 use Rattle.ios_tree.specs.declared.item.CommunityShape.TheVariants.{Standard, Expanded}
@@ -104,7 +101,8 @@ prefix_list_agrees =
     (optional_agrees (codes "seq" ∷ []) _ _ _ _ (number_agrees (2 ^ 64 - 1) (lit< tt)) (record { found = range_or_found; only = range_or_only }) no_seq))
 
 -- what is asked for, behind a number or none
-behind_seq : (ws : List (List ℕ)) (seq : Option ℕ) (x : Entry) (Number : List ℕ → ℕ → Type 0) → Optional (codes "seq" ∷ []) Number SpellRangeOr ws (seq, Some x) → (rest : List (List ℕ)) × SpellRange rest x
+behind_seq : (ws : List (List ℕ)) (seq : Option ℕ) (x : Entry) (Number : List ℕ → ℕ → Type 0) → Optional (codes "seq" ∷ []) Number SpellRangeOr ws (seq, Some x)
+    → (rest : List (List ℕ)) × SpellRange rest x
 behind_seq ws (Some n) x Number h = (h.2.1, h.2.4)
 behind_seq ws None x Number h = (ws, h)
 
@@ -143,72 +141,90 @@ prefix_description_only ws d h =
 
 -- ---- other entries
 
-entry_found : {A : Type 0} (ks : List (List ℕ)) (name : List ℕ → Option (List ℕ)) (shape : List (List ℕ) → Option A) (Name : List ℕ → List ℕ → Type 0) (Shape : List (List ℕ) → A → Type 0) → Agrees name Name → Agrees shape Shape
-    → (ws : List (List ℕ)) (x : List ℕ × (Bool × A)) → entry_in ks name shape ws ≡ Some x → SpellEntry ks Name Shape ws x
-entry_found ks name shape Name Shape a b ws x e =
-    let h = bind_found (head_in ks name ws) _ x e in
-    let rest = bind_found (after ks ws) _ h.0 h.1 in
-    let list = bind_found (value_at name rest.0) _ h.0 rest.2 in
-    let n = value_found name rest.0 list.0 list.1 in
-    let permit = bind_found (value_at permit_in list.0.1) _ h.0 list.2 in
-    let p = value_found permit_in list.0.1 permit.0 permit.1 in
-    let made = some_is _ h.0 permit.2 in
-    let y = bind_found (shape h.0.2) _ x h.2 in
-    subst (SpellEntry ks Name Shape ws) (some_is _ x y.2) (
-      rest.0,
-      after_found ks ws rest.0 rest.1,
-      (
-        n.0,
-        list.0.1,
-        n.1,
-        a.found n.0 h.0.0 (n.2 ∙ ap (λ (i : List ℕ × Bool × List (List ℕ)). Some i.0) made),
-        (
-          p.0,
-          h.0.2,
-          p.1 ∙ ap (λ (i : List ℕ × Bool × List (List ℕ)). p.0 ∷ i.2) made,
-          permit_agrees.found p.0 h.0.1 (p.2 ∙ ap (λ (i : List ℕ × Bool × List (List ℕ)). Some i.1) made),
-          b.found h.0.2 y.0 y.1,
-        ),
-      ),
-    )
+-- the words behind the first ones: a name, an action, and a shape
+module _ (ks : List (List ℕ)) (name : List ℕ → Option (List ℕ)) (Name : List ℕ → List ℕ → Type 0) (a : Agrees name Name) where
+  module _ {A : Type 0} (shape : List (List ℕ) → Option A) (Shape : List (List ℕ) → A → Type 0) (b : Agrees shape Shape) where
+    entry_found : (ws : List (List ℕ)) (x : List ℕ × (Bool × A)) → entry_in ks name shape ws ≡ Some x → SpellEntry ks Name Shape ws x
+    entry_found ws x e =
+        let h = bind_found (head_in ks name ws) _ x e in
+        let rest = bind_found (after ks ws) _ h.0 h.1 in
+        let list = bind_found (value_at name rest.0) _ h.0 rest.2 in
+        let n = value_found name rest.0 list.0 list.1 in
+        let permit = bind_found (value_at permit_in list.0.1) _ h.0 list.2 in
+        let p = value_found permit_in list.0.1 permit.0 permit.1 in
+        let made = some_is _ h.0 permit.2 in
+        let y = bind_found (shape h.0.2) _ x h.2 in
+        subst (SpellEntry ks Name Shape ws) (some_is _ x y.2) (
+          rest.0,
+          after_found ks ws rest.0 rest.1,
+          (
+            n.0,
+            list.0.1,
+            n.1,
+            a.found n.0 h.0.0 (n.2 ∙ ap (λ (i : List ℕ × Bool × List (List ℕ)). Some i.0) made),
+            (
+              p.0,
+              h.0.2,
+              p.1 ∙ ap (λ (i : List ℕ × Bool × List (List ℕ)). p.0 ∷ i.2) made,
+              permit_agrees.found p.0 h.0.1 (p.2 ∙ ap (λ (i : List ℕ × Bool × List (List ℕ)). Some i.1) made),
+              b.found h.0.2 y.0 y.1,
+            ),
+          ),
+        )
 
-entry_only : {A : Type 0} (ks : List (List ℕ)) (name : List ℕ → Option (List ℕ)) (shape : List (List ℕ) → Option A) (Name : List ℕ → List ℕ → Type 0) (Shape : List (List ℕ) → A → Type 0) → Agrees name Name → Agrees shape Shape
-    → (ws : List (List ℕ)) (x : List ℕ × (Bool × A)) → SpellEntry ks Name Shape ws x → entry_in ks name shape ws ≡ Some x
-entry_only ks name shape Name Shape a b ws (list, (permit, x)) (rest, e, (w, r, e1, n, (v, s, e2, p, q))) =
-    rw (after_spelled ks ws rest e, head_in) (rw e1 (rw (a.only w list n) (rw e2 (rw (permit_agrees.only v permit p) (rw (b.only s x q) refl)))))
+    entry_only : (ws : List (List ℕ)) (x : List ℕ × (Bool × A)) → SpellEntry ks Name Shape ws x → entry_in ks name shape ws ≡ Some x
+    entry_only ws (list, (permit, x)) (rest, e, (w, r, e1, n, (v, s, e2, p, q))) =
+        rw (after_spelled ks ws rest e, head_in) (rw e1 (rw (a.only w list n) (rw e2 (rw (permit_agrees.only v permit p) (rw (b.only s x q) refl)))))
 
-entry_agrees : {A : Type 0} (ks : List (List ℕ)) (name : List ℕ → Option (List ℕ)) (shape : List (List ℕ) → Option A) (Name : List ℕ → List ℕ → Type 0) (Shape : List (List ℕ) → A → Type 0) → Agrees name Name → Agrees shape Shape → Agrees (entry_in ks name shape) (SpellEntry ks Name Shape)
-entry_agrees ks name shape Name Shape a b = record { found = entry_found ks name shape Name Shape a b; only = entry_only ks name shape Name Shape a b }
+    entry_agrees : Agrees (entry_in ks name shape) (SpellEntry ks Name Shape)
+    entry_agrees = record { found = entry_found; only = entry_only }
 
--- ---- community lists
+  -- ---- community lists
 
-standard_found : (ks : List (List ℕ)) (name : List ℕ → Option (List ℕ)) (Name : List ℕ → List ℕ → Type 0) → Agrees name Name
-    → ((ws : List (List ℕ)) (list : List ℕ) (permit : Bool) (cs : List Community) → SpellEntry ks Name AreCommunities ws (list, (permit, cs)) → SpellCommunityEntry ws list permit (Standard cs))
-    → (ws : List (List ℕ)) (form : IosForm) → standard_in ks name ws ≡ Some form → SpellsAs CommunityList ws form
-unfolding standard_in
-standard_found ks name Name a is ws form e = made_found _ _ standard_form (SpellsAs CommunityList) (entry_agrees ks name _ Name AreCommunities a (some_agrees _ _ community_word_agrees)) (λ vs x h. (is vs x.0 x.1.0 x.1.1 h, refl)) ws form e
+  -- an entry of a standard list is one of a community list under this name
+  abbrev AreStandard : Type 0
+  AreStandard = (ws : List (List ℕ)) (x : List ℕ × (Bool × List Community)) → SpellEntry ks Name AreCommunities ws x → SpellCommunityEntry ws x.0 x.1.0 (Standard x.1.1)
 
-expanded_found : (ks : List (List ℕ)) (name : List ℕ → Option (List ℕ)) (Name : List ℕ → List ℕ → Type 0) → Agrees name Name
-    → ((ws : List (List ℕ)) (list : List ℕ) (permit : Bool) (r : RectParts) → SpellEntry ks Name (One IsShape) ws (list, (permit, r)) → SpellCommunityEntry ws list permit (Expanded r))
-    → (ws : List (List ℕ)) (form : IosForm) → expanded_in ks name ws ≡ Some form → SpellsAs CommunityList ws form
-unfolding expanded_in
-expanded_found ks name Name a is ws form e =
-    made_found _ _ expanded_form (SpellsAs CommunityList) (entry_agrees ks name _ Name (One IsShape) a (one_agrees _ _ shape_agrees)) (λ vs x h. (is vs x.0 x.1.0 x.1.1 h, refl)) ws form e
+  abbrev AreExpanded : Type 0
+  AreExpanded = (ws : List (List ℕ)) (x : List ℕ × (Bool × RectParts)) → SpellEntry ks Name (One IsShape) ws x → SpellCommunityEntry ws x.0 x.1.0 (Expanded x.1.1)
+
+  standard_agrees : Agrees (entry_in ks name (some_each community_word_in)) (SpellEntry ks Name AreCommunities)
+  standard_agrees = entry_agrees _ AreCommunities (some_agrees _ _ community_word_agrees)
+
+  expanded_agrees : Agrees (entry_in ks name (only shape_in)) (SpellEntry ks Name (One IsShape))
+  expanded_agrees = entry_agrees _ (One IsShape) (one_agrees _ _ shape_agrees)
+
+  standard_found : AreStandard → (ws : List (List ℕ)) (form : IosForm) → standard_in ks name ws ≡ Some form → SpellsAs CommunityList ws form
+  unfolding standard_in
+  standard_found are ws form e = made_found _ _ standard_form (SpellsAs CommunityList) standard_agrees (λ vs x h. (are vs x h, refl)) ws form e
+
+  expanded_found : AreExpanded → (ws : List (List ℕ)) (form : IosForm) → expanded_in ks name ws ≡ Some form → SpellsAs CommunityList ws form
+  unfolding expanded_in
+  expanded_found are ws form e = made_found _ _ expanded_form (SpellsAs CommunityList) expanded_agrees (λ vs x h. (are vs x h, refl)) ws form e
+
+  standard_only : (ws : List (List ℕ)) (x : List ℕ × (Bool × List Community)) → SpellEntry ks Name AreCommunities ws x → standard_in ks name ws ≡ Some (standard_form x)
+  unfolding standard_in
+  standard_only ws x h = made_only _ _ standard_form standard_agrees ws x h
+
+  expanded_only : (ws : List (List ℕ)) (x : List ℕ × (Bool × RectParts)) → SpellEntry ks Name (One IsShape) ws x → expanded_in ks name ws ≡ Some (expanded_form x)
+  unfolding expanded_in
+  expanded_only ws x h = made_only _ _ expanded_form expanded_agrees ws x h
 
 pub community_list_found : (ws : List (List ℕ)) (form : IosForm) → community_list_in ws ≡ Some form → SpellsAs CommunityList ws form
 unfolding community_list_in
 community_list_found ws form e =
-    first_found _ _ form (SpellsAs CommunityList ws form) (standard_found _ _ _ list_agrees (λ vs list permit cs h. inl h) ws form)
-    (λ e1. first_found _ _ form (SpellsAs CommunityList ws form) (expanded_found _ _ _ list_agrees (λ vs list permit r h. inl h) ws form)
-    (λ e2. first_found _ _ form (SpellsAs CommunityList ws form) (standard_found _ _ _ (numbered_list_agrees 1 99 (lit< tt)) (λ vs list permit cs h. inr h) ws form)
-    (expanded_found _ _ _ (numbered_list_agrees 100 500 (lit< tt)) (λ vs list permit r h. inr h) ws form) e2) e1) e
+    first_found _ _ form (SpellsAs CommunityList ws form) (standard_found _ _ _ list_agrees (λ vs x h. inl h) ws form)
+    (λ e1. first_found _ _ form (SpellsAs CommunityList ws form) (expanded_found _ _ _ list_agrees (λ vs x h. inl h) ws form)
+    (λ e2. first_found _ _ form (SpellsAs CommunityList ws form) (standard_found _ _ _ (numbered_list_agrees 1 99 (lit< tt)) (λ vs x h. inr h) ws form)
+    (expanded_found _ _ _ (numbered_list_agrees 100 500 (lit< tt)) (λ vs x h. inr h) ws form) e2) e1) e
 
 -- a number stands in no keyword's place
 not_keyword : (k : ℕ) (ks : List ℕ) (w : List ℕ) (n : ℕ) → is_digit k ≡ false → n < 2 ^ 64 → w ≡ decimal n → bytes_eq (k ∷ ks) w ≡ false
 not_keyword k ks w n other small e = ap (λ (x : List ℕ). bytes_eq (k ∷ ks) x) e ∙ bytes_sym (k ∷ ks) (decimal n) ∙ no_keyword n k ks small other
 
 -- behind `ip community-list` a number names the list
-none_behind : {A : Type 0} (k : ℕ) (ks : List ℕ) (name : List ℕ → Option (List ℕ)) (shape : List (List ℕ) → Option A) (ws rest : List (List ℕ)) (w : List ℕ) (behind_name : List (List ℕ)) → bytes_eq (k ∷ ks) w ≡ false
+none_behind : {A : Type 0} (k : ℕ) (ks : List ℕ) (name : List ℕ → Option (List ℕ)) (shape : List (List ℕ) → Option A)
+    → (ws rest : List (List ℕ)) (w : List ℕ) (behind_name : List (List ℕ)) → bytes_eq (k ∷ ks) w ≡ false
     → ws ≡ codes "ip" ∷ codes "community-list" ∷ rest → rest ≡ w ∷ behind_name → entry_in (codes "ip" ∷ codes "community-list" ∷ (k ∷ ks) ∷ []) name shape ws ≡ None
 unfolding after
 none_behind k ks name shape ws rest w behind_name other e f = rw e (rw f (rw (other, after) refl))
@@ -228,14 +244,6 @@ above : {A : Type 0} (shape : List (List ℕ) → Option A) (ws rest : List (Lis
 unfolding after numbered_list_in
 above shape ws rest w list behind_name h e f = rw e (rw f (rw (no_number w h.number (number_in 99 w) h.spelled h.some refl) refl))
 
-standard_only : (ks : List (List ℕ)) (name : List ℕ → Option (List ℕ)) (Name : List ℕ → List ℕ → Type 0) → Agrees name Name → (ws : List (List ℕ)) (x : List ℕ × (Bool × List Community)) → SpellEntry ks Name AreCommunities ws x → standard_in ks name ws ≡ Some (standard_form x)
-unfolding standard_in
-standard_only ks name Name a ws x h = made_only _ _ standard_form (entry_agrees ks name _ Name AreCommunities a (some_agrees _ _ community_word_agrees)) ws x h
-
-expanded_only : (ks : List (List ℕ)) (name : List ℕ → Option (List ℕ)) (Name : List ℕ → List ℕ → Type 0) → Agrees name Name → (ws : List (List ℕ)) (x : List ℕ × (Bool × RectParts)) → SpellEntry ks Name (One IsShape) ws x → expanded_in ks name ws ≡ Some (expanded_form x)
-unfolding expanded_in
-expanded_only ks name Name a ws x h = made_only _ _ expanded_form (entry_agrees ks name _ Name (One IsShape) a (one_agrees _ _ shape_agrees)) ws x h
-
 -- no standard list's entry is found where its shape isn't
 standard_none : (ks : List (List ℕ)) (name : List ℕ → Option (List ℕ)) (ws : List (List ℕ)) → entry_in ks name (some_each community_word_in) ws ≡ None → standard_in ks name ws ≡ None
 unfolding standard_in
@@ -245,15 +253,24 @@ expanded_none : (ks : List (List ℕ)) (name : List ℕ → Option (List ℕ)) (
 unfolding expanded_in
 expanded_none ks name ws e = ap (λ (o : Option (List ℕ × (Bool × RectParts))). option_map expanded_form o) e
 
+-- no entry with this keyword is found
+abbrev NoStandard : List (List ℕ) → Type 0
+NoStandard ws = standard_in (codes "ip" ∷ codes "community-list" ∷ codes "standard" ∷ []) list_in ws ≡ None
+
+abbrev NoExpanded : List (List ℕ) → Type 0
+NoExpanded ws = expanded_in (codes "ip" ∷ codes "community-list" ∷ codes "expanded" ∷ []) list_in ws ≡ None
+
 -- a number behind `ip community-list` is neither `standard` nor `expanded`
-numbered_apart : (ws rest : List (List ℕ)) (w : List ℕ) (behind_name : List (List ℕ)) (n : ℕ) → n < 2 ^ 64 → w ≡ decimal n → ws ≡ codes "ip" ∷ codes "community-list" ∷ rest → rest ≡ w ∷ behind_name
-    → (standard_in (codes "ip" ∷ codes "community-list" ∷ codes "standard" ∷ []) list_in ws ≡ None) × (expanded_in (codes "ip" ∷ codes "community-list" ∷ codes "expanded" ∷ []) list_in ws ≡ None)
+numbered_apart : (ws rest : List (List ℕ)) (w : List ℕ) (behind_name : List (List ℕ)) (n : ℕ) → n < 2 ^ 64 → w ≡ decimal n → ws ≡ codes "ip" ∷ codes "community-list" ∷ rest
+    → rest ≡ w ∷ behind_name
+    → NoStandard ws × NoExpanded ws
 numbered_apart ws rest w behind_name n small number e f = (
   standard_none _ _ ws (none_behind 115 (codes "tandard") list_in _ ws rest w behind_name (not_keyword 115 (codes "tandard") w n refl small number) e f),
   expanded_none _ _ ws (none_behind 101 (codes "xpanded") list_in _ ws rest w behind_name (not_keyword 101 (codes "xpanded") w n refl small number) e f),
 )
 
-pub community_list_only : (ws : List (List ℕ)) (list : List ℕ) (permit : Bool) (shape : CommunityShape) → SpellCommunityEntry ws list permit shape → community_list_in ws ≡ Some (CommunityEntry (record { list = list; permit = permit; shape = shape }))
+pub community_list_only : (ws : List (List ℕ)) (list : List ℕ) (permit : Bool) (shape : CommunityShape) → SpellCommunityEntry ws list permit shape
+    → community_list_in ws ≡ Some (CommunityEntry (record { list = list; permit = permit; shape = shape }))
 unfolding community_list_in
 community_list_only ws list permit (Standard cs) (inl h) = rw (standard_only _ _ _ list_agrees ws (list, (permit, cs)) h) refl
 community_list_only ws list permit (Standard cs) (inr h) =
@@ -270,8 +287,11 @@ community_list_only ws list permit (Expanded r) (inr h) =
 
 -- ---- path lists and route-maps
 
-path_agrees : Agrees (entry_in (codes "ip" ∷ codes "as-path" ∷ codes "access-list" ∷ []) (numbered_list_in 1 (2 ^ 64 - 1)) (only ios_pattern_in)) (SpellEntry (codes "ip" ∷ codes "as-path" ∷ codes "access-list" ∷ []) IsPathListWord (One SpellsPattern))
-path_agrees = entry_agrees _ _ _ _ _ (numbered_list_agrees 1 (2 ^ 64 - 1) (lit< tt)) (one_agrees _ _ pattern_agrees)
+abbrev path_keys : List (List ℕ)
+path_keys = codes "ip" ∷ codes "as-path" ∷ codes "access-list" ∷ []
+
+path_agrees : Agrees (entry_in path_keys (numbered_list_in 1 (2 ^ 64 - 1)) (only ios_pattern_in)) (SpellEntry path_keys IsPathListWord (One SpellsPattern))
+path_agrees = entry_agrees _ _ _ (numbered_list_agrees 1 (2 ^ 64 - 1) (lit< tt)) _ _ (one_agrees _ _ pattern_agrees)
 
 pub path_entry_found : (ws : List (List ℕ)) (form : IosForm) → path_entry_in ws ≡ Some form → SpellsAs PathList ws form
 unfolding path_entry_in
@@ -282,7 +302,7 @@ unfolding path_entry_in
 path_entry_only ws e h = made_only _ _ path_form path_agrees ws (e.list, (e.permit, e.pattern)) h
 
 header_agrees : Agrees (entry_in (codes "route-map" ∷ []) name_in (only (number_in (2 ^ 64 - 1)))) (SpellEntry (codes "route-map" ∷ []) IsNameWord (One (IsNumber (2 ^ 64 - 1))))
-header_agrees = entry_agrees _ _ _ _ _ name_agrees (one_agrees _ _ (number_agrees (2 ^ 64 - 1) (lit< tt)))
+header_agrees = entry_agrees _ _ _ name_agrees _ _ (one_agrees _ _ (number_agrees (2 ^ 64 - 1) (lit< tt)))
 
 pub map_header_found : (ws : List (List ℕ)) (form : IosForm) → map_header_in ws ≡ Some form → SpellsAs Map ws form
 unfolding map_header_in

@@ -1,21 +1,19 @@
 -- The lines of an entry, both ways: a line that is found is spelled by the words, and what is spelled is
 -- found.
-use Rattle.std.proofs.Common.{◌≡◌, refl, sym, ap, ◌∙◌, subst, ℕ, ◌-◌, ◌^◌, ◌≤◌, Bool, true, false, List, [], ◌∷◌, ◌++◌, length, Option, Some, None, arith, inl, inr, ◌⊎◌, lit<}
-use Rattle.std.specs.Prelude.{codes, bytes_eq, ◌==◌, option_map}
+use Rattle.std.proofs.Common.{◌≡◌, refl, sym, ap, ◌∙◌, subst, ℕ, ◌-◌, ◌^◌, Bool, true, false, List, [], ◌∷◌, ◌++◌, length, Option, Some, None, arith, inl, inr, lit<}
+use Rattle.std.specs.Prelude.{codes, bytes_eq, ◌==◌}
 use Rattle.std.proofs.lemmas.List.{append-nil}
 use Rattle.std.proofs.lemmas.Slice.Eq.{bytes_eq-Decides}
 use Rattle.route_types.specs.Words.{◌>>=◌, when, number_in, parts_at, community_in}
-use Rattle.route_types.specs.declared.address.Family.{Family}
 use Rattle.route_types.specs.declared.community.Community.{Community}
 use Rattle.route_types.proofs.Numbers.{bind_found, some_is}
-use Rattle.policy_text.specs.Names.{first_some}
-use Rattle.policy_text.specs.Phrases.{Agrees, AreSome, Behind, One, after, behind, only, some_each}
-use Rattle.policy_text.proofs.Phrases.{when_found, same_bytes, after_found, first_found, map_found}
+use Rattle.policy_text.specs.Phrases.{Agrees, Behind, after, behind, some_each}
+use Rattle.policy_text.proofs.Phrases.{when_found, same_bytes, after_found, first_found}
 use Rattle.policy_text.proofs.Agree.{one_agrees, some_agrees, behind_agrees, made_found, made_only}
 use Rattle.policy_text.proofs.Values.{number_agrees, address_agrees}
-use Rattle.ios_tree.specs.Names.{list_in, community_word_in}
+use Rattle.ios_tree.specs.Names.{community_word_in}
 use Rattle.ios_tree.specs.Forms.{option_in, with_option, none_in, communities_in, followed_in, target_in, line_of, match_prefix_in, match_line_in, set_number_in, set_value_in, set_list_in, other_line_in, line_in}
-use Rattle.ios_tree.specs.Spelling.{IsListWord, IsCommunityWord, AreCommunities, SpellOption, WithOption, SpellCommunities, Followed, SpellTarget, SpellLine}
+use Rattle.ios_tree.specs.Spelling.{IsCommunityWord, AreCommunities, SpellOption, WithOption, SpellCommunities, Followed, SpellTarget, SpellLine}
 use Rattle.ios_tree.specs.declared.item.CommunitySetting.{CommunitySetting}
 use Rattle.ios_tree.specs.declared.item.MapLine.{MapLine}
 use Rattle.ios_tree.specs.declared.item.MapLine.TheVariants.{MatchPrefix, MatchNextHop, MatchCommunity, MatchPath, MatchMetric, SetLocalPreference, SetMetric, SetWeight, SetPrepend, SetOrigin, SetNextHop, SetCommunity, DeleteCommunities, Continue, Description}
@@ -50,7 +48,8 @@ communities_found ws s e =
     (made_found _ _ _ SpellCommunities (with_option_agrees (codes "additive") community_word_in IsCommunityWord community_word_agrees) (λ vs x h. inr h) ws s)
     e
 
-not_none_here : (t : Bool) (w : List ℕ) (c : Community) (ws : List (List ℕ)) → bytes_eq (codes "none") w ≡ t → IsCommunityWord w c → ◌≡◌ {A = Option CommunitySetting} ((elim t [ true ↦ Some ws | false ↦ None ]) >>= λ rest. when (length rest == 0) (record { communities = []; additive = false })) None
+not_none_here : (t : Bool) (w : List ℕ) (c : Community) (ws : List (List ℕ)) → bytes_eq (codes "none") w ≡ t → IsCommunityWord w c
+    → ◌≡◌ {A = Option CommunitySetting} ((elim t [ true ↦ Some ws | false ↦ None ]) >>= λ rest. when (length rest == 0) (record { communities = []; additive = false })) None
 unfolding community_in community_word_in parts_at number_in
 not_none_here true w c ws t h =
     let none : community_word_in (codes "none") ≡ Some c = ap (λ (x : List ℕ). community_word_in x) (same_bytes (codes "none") w t) ∙ community_word_agrees.only w c h in
@@ -79,11 +78,13 @@ communities_only ws s (inr h) =
 communities_agree : Agrees communities_in SpellCommunities
 communities_agree = record { found = communities_found; only = communities_only }
 
-followed_here : {A : Type 0} (t : Bool) (key w v : List ℕ) (o : Option A) (P : List ℕ → A → Type 0) (x : A) → bytes_eq v key ≡ t → (o ≡ Some x → P w x) → (elim t [ true ↦ o | false ↦ None ]) ≡ Some x → Followed key P (w ∷ v ∷ []) x
+followed_here : {A : Type 0} (t : Bool) (key w v : List ℕ) (o : Option A) (P : List ℕ → A → Type 0) (x : A) → bytes_eq v key ≡ t → (o ≡ Some x → P w x)
+    → (elim t [ true ↦ o | false ↦ None ]) ≡ Some x → Followed key P (w ∷ v ∷ []) x
 followed_here true key w v o P x t is e = (w, ap (λ (y : List ℕ). w ∷ y ∷ []) (same_bytes v key t), is e)
 followed_here false key w v o P x t is e = absurd cc
 
-followed_found : {A : Type 0} (key : List ℕ) (f : List ℕ → Option A) (P : List ℕ → A → Type 0) → Agrees f P → (ws : List (List ℕ)) (x : A) → followed_in key f ws ≡ Some x → Followed key P ws x
+followed_found : {A : Type 0} (key : List ℕ) (f : List ℕ → Option A) (P : List ℕ → A → Type 0) → Agrees f P → (ws : List (List ℕ)) (x : A) → followed_in key f ws ≡ Some x
+    → Followed key P ws x
 followed_found key f P a [] x e = absurd cc
 followed_found key f P a (w ∷ []) x e = absurd cc
 followed_found key f P a (w ∷ v ∷ []) x e = followed_here (bytes_eq v key) key w v (f w) P x refl (a.found w x) e
@@ -109,7 +110,8 @@ anything_agrees = record { found = λ ws rest e. some_is ws rest e; only = λ ws
 -- ---- what is found is spelled
 
 -- a line that is found by its first words is spelled
-of_line : {A : Type 0} (make : A → MapLine) (ks : List (List ℕ)) (f : List (List ℕ) → Option A) (P : List (List ℕ) → A → Type 0) → Agrees f P → ((ws : List (List ℕ)) (x : A) → Behind ks P ws x → SpellLine ws (make x))
+of_line : {A : Type 0} (make : A → MapLine) (ks : List (List ℕ)) (f : List (List ℕ) → Option A) (P : List (List ℕ) → A → Type 0) → Agrees f P
+    → ((ws : List (List ℕ)) (x : A) → Behind ks P ws x → SpellLine ws (make x))
     → (ws : List (List ℕ)) (l : MapLine) → line_of make ks f ws ≡ Some l → SpellLine ws l
 unfolding line_of
 of_line make ks f P a is ws l e = made_found (behind ks f) (Behind ks P) make SpellLine (behind_agrees ks f P a) is ws l e

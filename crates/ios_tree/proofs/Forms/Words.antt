@@ -12,12 +12,13 @@ use Rattle.route_types.proofs.Spelled.{parts_at_behind, parts_at_found, ap2}
 use Rattle.aspath_text.specs.IosGrammar.{SpellsPattern}
 use Rattle.aspath_text.specs.IosRead.{ios_pattern_in}
 use Rattle.aspath_text.proofs.IosReadSpelled.{ios_pattern_found, ios_pattern_only}
+use Rattle.policy_text.specs.CommonWords.{community_of_bits}
 use Rattle.policy_text.specs.Names.{is_name, first_some}
 use Rattle.policy_text.specs.Phrases.{Agrees, IsOneOf, one_of}
 use Rattle.policy_text.proofs.Phrases.{when_found, same_bytes, first_found, no_keyword}
 use Rattle.policy_text.proofs.Agree.{one_of_agrees}
 use Rattle.policy_text.proofs.Values.{number_agrees, community_agrees}
-use Rattle.ios_tree.specs.Names.{list_name, list_in, numbered_list_in, actions, origins, permit_in, origin_in, community_of_bits, known_communities, whole_community, community_word_in, half_in, shape_in}
+use Rattle.ios_tree.specs.Names.{list_name, list_in, numbered_list_in, actions, origins, permit_in, origin_in, ios_communities, whole_community, community_word_in, half_in, shape_in}
 use Rattle.ios_tree.specs.Spelling.{IsListWord, IsListNumber, IsCommunityWord, IsHalf, IsShape}
 
 -- ---- names of lists
@@ -60,11 +61,12 @@ whole_found w c e =
 community_word_found : (w : List ℕ) (c : Community) → community_word_in w ≡ Some c → IsCommunityWord w c
 unfolding community_word_in
 community_word_found w c e =
-    first_found (community_in w) (first_some (one_of known_communities w) (whole_community w)) c (IsCommunityWord w c) (λ h. inl (community_agrees.found w c h))
-    (λ g. first_found (one_of known_communities w) (whole_community w) c (IsCommunityWord w c) (λ h. inr (inl ((one_of_agrees known_communities refl).found w c h))) (λ h. inr (inr (whole_found w c h))) g)
+    first_found (community_in w) (first_some (one_of ios_communities w) (whole_community w)) c (IsCommunityWord w c) (λ h. inl (community_agrees.found w c h))
+    (λ g. first_found (one_of ios_communities w) (whole_community w) c (IsCommunityWord w c) (λ h. inr (inl ((one_of_agrees ios_communities refl).found w c h))) (λ h. inr (inr (whole_found w c h))) g)
     e
 
-no_part_here : (t : Bool) (b c : ℕ) (cs : List ℕ) → t ≡ false → parts_at b cs ≡ None → ◌≡◌ {A = Option (List ℕ × List ℕ)} (elim t [ true ↦ Some ([], cs) | false ↦ parts_at b cs >>= λ parts. Some (c ∷ parts.0, parts.1) ]) None
+no_part_here : (t : Bool) (b c : ℕ) (cs : List ℕ) → t ≡ false → parts_at b cs ≡ None
+    → ◌≡◌ {A = Option (List ℕ × List ℕ)} (elim t [ true ↦ Some ([], cs) | false ↦ parts_at b cs >>= λ parts. Some (c ∷ parts.0, parts.1) ]) None
 no_part_here true b c cs e more = absurd cc
 no_part_here false b c cs e more = ap (λ (o : Option (List ℕ × List ℕ)). o >>= λ parts. Some (c ∷ parts.0, parts.1)) more
 
@@ -75,7 +77,7 @@ no_parts b [] h = refl
 no_parts b (c ∷ cs) h = let p = or_parts (c == b) (list_any (λ x. x == b) cs) h in no_part_here (c == b) b c cs p.0 (no_parts b cs p.1)
 
 -- a number is no word of its own
-number_unknown : (n : ℕ) → n < 2 ^ 64 → one_of known_communities (decimal n) ≡ None
+number_unknown : (n : ℕ) → n < 2 ^ 64 → one_of ios_communities (decimal n) ≡ None
 number_unknown n small =
     rw (no_keyword n 110 (codes "o-export") small refl, one_of) (rw (no_keyword n 110 (codes "o-advertise") small refl, one_of) (rw (no_keyword n 108 (codes "ocal-AS") small refl, one_of) refl))
 
@@ -90,7 +92,7 @@ number_word w c h =
 
 community_word_only : (w : List ℕ) (c : Community) → IsCommunityWord w c → community_word_in w ≡ Some c
 unfolding community_in community_word_in parts_at
-community_word_only w c (inl h) = ap (λ (o : Option Community). first_some o (first_some (one_of known_communities w) (whole_community w))) (community_agrees.only w c h)
+community_word_only w c (inl h) = ap (λ (o : Option Community). first_some o (first_some (one_of ios_communities w) (whole_community w))) (community_agrees.only w c h)
 community_word_only w c (inr (inl (inl (e, f)))) = rw (e, f) refl
 community_word_only w c (inr (inl (inr (inl (e, f))))) = rw (e, f) refl
 community_word_only w c (inr (inl (inr (inr (inl (e, f)))))) = rw (e, f) refl
@@ -115,7 +117,8 @@ half_spelled w least most (inl (h, e)) = rw e (ap (λ (o : Option ℕ). first_so
 half_spelled w least most (inr (e, f, g)) = rw (e, f, g) refl
 
 -- a byte that is no digit and doesn't stand in `[0-9]+` doesn't stand in a half
-half_avoids : (b : ℕ) (w : List ℕ) (least most : ℕ) → is_digit b ≡ false → list_any (λ c. c == b) (codes "[0-9]+") ≡ false → IsHalf w least most → list_any (λ c. c == b) w ≡ false
+half_avoids : (b : ℕ) (w : List ℕ) (least most : ℕ) → is_digit b ≡ false → list_any (λ c. c == b) (codes "[0-9]+") ≡ false → IsHalf w least most
+    → list_any (λ c. c == b) w ≡ false
 half_avoids b w least most other all (inl (h, e)) = ap (λ (x : List ℕ). list_any (λ c. c == b) x) h.spelled ∙ decimal_no_such_byte b least other (omega (arith, h.within))
 half_avoids b w least most other all (inr (e, f, g)) = ap (λ (x : List ℕ). list_any (λ c. c == b) x) e ∙ all
 

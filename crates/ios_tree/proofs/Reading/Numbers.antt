@@ -26,12 +26,15 @@ use Rattle.ios_tree.proofs.Spelled.{is_spelled}
 greater_raised : (n m : ℕ) → m < n → greater n m ≡ n
 greater_raised n m h = rw (lt-leb n m h, greater) refl
 
-raised_here : (t : Bool) (list q : List ℕ) (number : ℕ) (m : BTreeMap (Bor (List ℕ)) ℕ) → bytes_eq q list ≡ t → greatest_in m list < number → or_else (cond t (Some number) (get_by (λ k. slice_cmp nat_cmp q k.now) m)) 0 ≡ elim t [ true ↦ greater number (greatest_in m q) | false ↦ greatest_in m q ]
+raised_here : (t : Bool) (list q : List ℕ) (number : ℕ) (m : BTreeMap (Bor (List ℕ)) ℕ) → bytes_eq q list ≡ t → greatest_in m list < number
+    → or_else (cond t (Some number) (get_by (λ k. slice_cmp nat_cmp q k.now) m)) 0 ≡ elim t [ true ↦ greater number (greatest_in m q) | false ↦ greatest_in m q ]
 raised_here true list q number m t less = sym (greater_raised number (greatest_in m q) (subst (λ (x : List ℕ). greatest_in m x < number) (sym (same_bytes q list t)) less))
 raised_here false list q number m t less = refl
 
 -- a greater number that was put into a map
-pub raised : (list : List ℕ) (number : ℕ) (m n : BTreeMap (Bor (List ℕ)) ℕ) → greatest_in m list < number → UpdatesBy (λ x y. slice_cmp nat_cmp x.now y.now) (λ k. slice_cmp nat_cmp list k.now) m n (Some number) → (q : List ℕ) → greatest_in n q ≡ elim (bytes_eq q list) [ true ↦ greater number (greatest_in m q) | false ↦ greatest_in m q ]
+pub raised : (list : List ℕ) (number : ℕ) (m n : BTreeMap (Bor (List ℕ)) ℕ) → greatest_in m list < number
+    → UpdatesBy (λ x y. slice_cmp nat_cmp x.now y.now) (λ k. slice_cmp nat_cmp list k.now) m n (Some number) → (q : List ℕ)
+    → greatest_in n q ≡ elim (bytes_eq q list) [ true ↦ greater number (greatest_in m q) | false ↦ greatest_in m q ]
 raised list number m n less h q =
     ap (λ (o : Option ℕ). or_else o 0) (btree_map_updates_str list m n (Some number) h q)
     ∙ ap (λ (t : Bool). or_else (cond t (Some number) (get_by (λ k. slice_cmp nat_cmp q k.now) m)) 0) (bytes_sym list q)
@@ -80,21 +83,24 @@ raises_swap (Some a) (Some b) n = greater_swaps a b n
 raises_swap (Some a) None n = refl
 raises_swap None p n = refl
 
-forms_swap : (family : Family) (list : List ℕ) (f g : IosForm) (n : ℕ) → greatest_with family list f (greatest_with family list g n) ≡ greatest_with family list g (greatest_with family list f n)
+forms_swap : (family : Family) (list : List ℕ) (f g : IosForm) (n : ℕ)
+    → greatest_with family list f (greatest_with family list g n) ≡ greatest_with family list g (greatest_with family list f n)
 forms_swap family list f g n =
     form_raises family list f (greatest_with family list g n) ∙ ap (raised_by (number_in_list family list f)) (form_raises family list g n)
     ∙ raises_swap (number_in_list family list f) (number_in_list family list g) n
     ∙ sym (form_raises family list g (greatest_with family list f n) ∙ ap (raised_by (number_in_list family list g)) (form_raises family list f n))
 
 -- the greatest number of a list with one more item at the end
-greatest_more : (family : Family) (list : List ℕ) (items : List IosItem) (i : IosItem) → greatest_number family list (items ++ i ∷ []) ≡ greatest_with family list i.form (greatest_number family list items)
+greatest_more : (family : Family) (list : List ℕ) (items : List IosItem) (i : IosItem)
+    → greatest_number family list (items ++ i ∷ []) ≡ greatest_with family list i.form (greatest_number family list items)
 greatest_more family list [] i = refl
 greatest_more family list (j ∷ js) i =
     ap (λ (n : ℕ). greatest_with family list j.form n) (greatest_more family list js i)
     ∙ forms_swap family list j.form i.form (greatest_number family list js)
 
 -- what is kept are the greatest numbers with one more item
-pub tells_more : (old new : Greatest) (items : List IosItem) (i : IosItem) → Tells old items → ((family : Family) (list : List ℕ) → greatest_of new family list ≡ greatest_with family list i.form (greatest_of old family list)) → Tells new (items ++ i ∷ [])
+pub tells_more : (old new : Greatest) (items : List IosItem) (i : IosItem) → Tells old items
+    → ((family : Family) (list : List ℕ) → greatest_of new family list ≡ greatest_with family list i.form (greatest_of old family list)) → Tells new (items ++ i ∷ [])
 tells_more old new items i told raised family list =
     raised family list ∙ ap (λ (n : ℕ). greatest_with family list i.form n) (told family list) ∙ sym (greatest_more family list items i)
 
@@ -104,7 +110,8 @@ by_told g items (PrefixEntry e) told = ap (λ (n : ℕ). elim e.has_seq [ true �
 by_told g items _ told = refl
 
 -- an item that was put behind the others
-pub item_put : (g : Greatest) (old new more : List IosItem) (written form : IosForm) (span : Span) → Tells g old → form ≡ numbered_by (greatest_of g) written → new ≡ old ++ record { form = form; span = span } ∷ [] → new ++ numbered_from new more ≡ old ++ numbered_from old (record { form = written; span = span } ∷ more)
+pub item_put : (g : Greatest) (old new more : List IosItem) (written form : IosForm) (span : Span) → Tells g old → form ≡ numbered_by (greatest_of g) written
+    → new ≡ old ++ record { form = form; span = span } ∷ [] → new ++ numbered_from new more ≡ old ++ numbered_from old (record { form = written; span = span } ∷ more)
 unfolding numbered_from
 item_put g old new more written form span told is put =
     let i : IosItem = record { form = written; span = span } in

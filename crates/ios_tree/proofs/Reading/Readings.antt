@@ -1,11 +1,11 @@
 -- A text reads as its tree, and as no other one.
-use Rattle.std.proofs.Common.{◌≡◌, refl, sym, ap, ◌∙◌, subst, ℕ, Bool, true, false, List, [], ◌∷◌, ◌++◌, Option, Some, None, Result, Ok, Err, inl, inr, ◌⊎◌}
+use Rattle.std.proofs.Common.{◌≡◌, refl, sym, ap, ◌∙◌, subst, ℕ, Bool, true, false, List, [], ◌∷◌, ◌++◌, Option, Some, None, Result, Ok, Err, inl, inr}
 use Rattle.std.specs.Prelude.{IfOk}
 use Rattle.text_words.specs.declared.statement.Statement.{Statement}
 use Rattle.text_words.specs.IosCut.{ios_cut}
 use Rattle.policy_text.specs.Names.{or_else}
 use Rattle.policy_text.specs.Phrases.{texts}
-use Rattle.ios_tree.specs.Reading.{SpellsAs, Says, IsForeign, IsItem, ReadsFrom, Reads}
+use Rattle.ios_tree.specs.Reading.{SpellsAs, Says, IsItem, ReadsFrom, Reads}
 use Rattle.ios_tree.specs.Tree.{sort_of, belongs, opens, name_under, known_form, form_of, items_of, numbered, numbered_item, numbered_from, ios_tree}
 use Rattle.ios_tree.specs.declared.item.IosForm.{IosForm}
 use Rattle.ios_tree.specs.declared.item.IosForm.TheVariants.{Other}
@@ -28,7 +28,8 @@ says_form : (sort : ItemSort) (ws : List (List ℕ)) → Says sort ws (form_of s
 unfolding form_of
 says_form sort ws = says_here sort ws (known_form sort ws) refl
 
-none_said : (sort : ItemSort) (ws : List (List ℕ)) (o : Option IosForm) → known_form sort ws ≡ o → ((form : IosForm) → SpellsAs sort ws form → ⊥) → or_else o (other sort ws) ≡ other sort ws
+none_said : (sort : ItemSort) (ws : List (List ℕ)) (o : Option IosForm) → known_form sort ws ≡ o → ((form : IosForm) → SpellsAs sort ws form → ⊥)
+    → or_else o (other sort ws) ≡ other sort ws
 none_said sort ws (Some form) e none = absurd (none form (known_found sort ws form e))
 none_said sort ws None e none = refl
 
@@ -55,7 +56,8 @@ not_placed entry_open _ b = absurd cc
 abbrev item_of : ItemSort → Statement → IosItem
 item_of sort s = record { form = form_of sort (texts s.words); span = s.span }
 
-reads_sort : (entry_open : Bool) (before : List IosItem) (s : Statement) (ss : List Statement) (sort : ItemSort) (b : Bool) → sort_of s.depth (texts s.words) ≡ Some sort → belongs entry_open sort ≡ b
+reads_sort : (entry_open : Bool) (before : List IosItem) (s : Statement) (ss : List Statement) (sort : ItemSort) (b : Bool) → sort_of s.depth (texts s.words) ≡ Some sort
+    → belongs entry_open sort ≡ b
     → ((after : Bool) (items : List IosItem) → ReadsFrom after items ss (numbered_from items (items_of after ss)))
     → ReadsFrom entry_open before (s ∷ ss) (numbered_from before (elim b [ true ↦ item_of sort s ∷ items_of (opens sort) ss | false ↦ items_of false ss ]))
 unfolding numbered_from

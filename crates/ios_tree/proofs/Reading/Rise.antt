@@ -1,12 +1,12 @@
 -- The spans of items rise, and lie within the text.
-use Rattle.std.proofs.Common.{◌≡◌, refl, sym, subst, ℕ, ◌<◌, ◌≤◌, Bool, true, false, List, [], ◌∷◌, ◌++◌, length, Result, Ok, Err, arith, inl, inr, ◌⊎◌}
+use Rattle.std.proofs.Common.{◌≡◌, sym, subst, ℕ, ◌<◌, ◌≤◌, Bool, false, List, [], ◌∷◌, ◌++◌, length, Result, Ok, Err, arith, inl, inr}
 use Rattle.std.specs.Prelude.{IfOk}
 use Rattle.text_words.specs.declared.statement.Span.{Span}
 use Rattle.text_words.specs.declared.statement.Statement.{Statement}
 use Rattle.text_words.specs.IosCut.{ios_cut}
 use Rattle.text_words.specs.Rising.{StatementsRise}
 use Rattle.text_words.proofs.Rise.{cut_rises}
-use Rattle.ios_tree.specs.Reading.{IsItem, ReadsFrom}
+use Rattle.ios_tree.specs.Reading.{ReadsFrom}
 use Rattle.ios_tree.specs.Spans.{RiseFrom, SpansRise}
 use Rattle.ios_tree.specs.Tree.{opens, ios_tree}
 use Rattle.ios_tree.proofs.Reading.Readings.{tree_reads}
