@@ -1,0 +1,4 @@
+pub mod Tells
+pub mod SameKinds
+pub mod Places
+pub mod Insert

@@ -1,0 +1,4 @@
+pub mod Atoms
+pub mod Nodes
+pub mod Outcome
+pub mod Made
