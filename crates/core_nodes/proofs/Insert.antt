@@ -10,7 +10,7 @@ use Rattle.core_nodes.specs.Made.{Keeps, IsMade}
 use Rattle.core_nodes.specs.declared.node.NodeKind.{NodeKind}
 use Rattle.core_nodes.specs.contracts.node.NodeKindEq.TheImpl.Laws as law
 use Rattle.core_nodes.proofs.SameKinds.{same_kind, kinds_tell}
-use Rattle.core_nodes.proofs.Places.{kind_newest, kind_older, is_at, is_made, keeps_grown}
+use Rattle.core_nodes.proofs.Places.{Before, IsGrown, kind_newest, kind_older, is_at, is_made, keeps_grown}
 
 -- no place past the newest has a node
 kind_past : (nodes : List NodeKind) (p : ℕ) → length nodes ≤ p → kind_at nodes p ≡ None
@@ -53,7 +53,7 @@ insert_by : (b : Bool) (ks : List NodeKind) (k : NodeKind) → list_any (same_ki
 insert_by b ks k e = ap (λ v. if v then ks else ks ++ k ∷ []) e
 
 -- a node whose children stand is inserted: the graph keeps its facts
-pub nodes_insert : (ks : List NodeKind) (k : NodeKind) → AreNodes (reverse ks) → AllByRecursion (λ p. p < length (reverse ks)) (children k) → AreNodes (reverse (insert_key same_kind ks k))
+pub nodes_insert : (ks : List NodeKind) (k : NodeKind) → AreNodes (reverse ks) → Before (reverse ks) k → AreNodes (reverse (insert_key same_kind ks k))
 unfolding AreNodes
 nodes_insert ks k are before =
     elim (cases_Bool (list_any (same_kind k) ks)) [
@@ -64,21 +64,30 @@ nodes_insert ks k are before =
     ]
 
 -- and is as before or one node longer
-pub grown_insert : (ks : List NodeKind) (k : NodeKind) → (reverse (insert_key same_kind ks k) ≡ reverse ks) ⊎ (reverse (insert_key same_kind ks k) ≡ k ∷ reverse ks)
+pub grown_insert : (ks : List NodeKind) (k : NodeKind) → IsGrown (reverse ks) (reverse (insert_key same_kind ks k)) k
 grown_insert ks k =
     elim (cases_Bool (list_any (same_kind k) ks)) [
       | inl e ↦ inl (ap (λ l. reverse l) (insert_by true ks k e))
       | inr e ↦ inr (ap (λ l. reverse l) (insert_by false ks k e) ∙ reverse-append ks (k ∷ []))
     ]
 
--- the node that stands at the index is the one that was put
-pub put_made : (ks now : List NodeKind) (k l : NodeKind) (i : ℕ) → AreNodes (reverse ks) → AllByRecursion (λ p. p < length (reverse ks)) (children k) → now ≡ insert_key same_kind ks k → slice_get now i ≡ Some l → same_kind k l ≡ true → IsMade (reverse ks) (reverse now) k i
-put_made ks now k l i are before keys there same =
-    let grown = subst (λ m. (reverse m ≡ reverse ks) ⊎ (reverse m ≡ k ∷ reverse ks)) (sym keys) (grown_insert ks k) in
-    let nodes = subst (λ m. AreNodes (reverse m)) (sym keys) (nodes_insert ks k are before) in
-    let at : kind_at (reverse now) i ≡ Some k = kind_reverse now i ∙ there ∙ ap (λ m. Some m) (sym (kinds_tell k l same)) in
-    is_made (reverse ks) (reverse now) k i before grown (is_at (reverse now) i k nodes at)
+-- a node was put into a graph: one stands at the index that the set takes for it
+pub record IsPut (ks now : List NodeKind) (k : NodeKind) (i : ℕ) : Type 0 where
+  pub facts : AreNodes (reverse ks)
+  pub before : Before (reverse ks) k
+  pub keys : now ≡ insert_key same_kind ks k
+  pub stored : NodeKind
+  pub there : slice_get now i ≡ Some stored
+  pub same : same_kind k stored ≡ true
+
+-- so it is made
+pub put_made : (ks now : List NodeKind) (k : NodeKind) (i : ℕ) → IsPut ks now k i → IsMade (reverse ks) (reverse now) k i
+put_made ks now k i h =
+    let grown = subst (λ m. IsGrown (reverse ks) (reverse m) k) (sym h.keys) (grown_insert ks k) in
+    let nodes = subst (λ m. AreNodes (reverse m)) (sym h.keys) (nodes_insert ks k h.facts h.before) in
+    let at : kind_at (reverse now) i ≡ Some k = kind_reverse now i ∙ h.there ∙ ap (λ m. Some m) (sym (kinds_tell k h.stored h.same)) in
+    is_made (reverse ks) (reverse now) k i h.before grown nodes (is_at (reverse now) i k nodes at)
 
 pub put_keeps : (ks now : List NodeKind) (k : NodeKind) → now ≡ insert_key same_kind ks k → Keeps (reverse ks) (reverse now)
 put_keeps ks now k keys =
-    keeps_grown (reverse ks) (reverse now) k (subst (λ m. (reverse m ≡ reverse ks) ⊎ (reverse m ≡ k ∷ reverse ks)) (sym keys) (grown_insert ks k))
+    keeps_grown (reverse ks) (reverse now) k (subst (λ m. IsGrown (reverse ks) (reverse m) k) (sym keys) (grown_insert ks k))

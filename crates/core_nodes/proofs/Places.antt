@@ -124,13 +124,25 @@ keeps_both one two three first second = record {
   answers = λ p below r. second.answers p (first.longer p below) r ∙ first.answers p below r;
 }
 
+-- what leads to older nodes
+abbrev pub Before : List NodeKind → NodeKind → Type 0
+Before old k = AllByRecursion (λ c. c < length old) (children k)
+
+-- as before, or one node longer
+abbrev pub IsGrown : List NodeKind → List NodeKind → NodeKind → Type 0
+IsGrown old new k = (new ≡ old) ⊎ (new ≡ k ∷ old)
+
+-- the children of a node give the same outcomes before and after
+children_keep : (old new : List NodeKind) (k : NodeKind) → Before old k → Keeps old new → (r : RouteParts) → answer_of (outcome_at new) k r ≡ answer_of (outcome_at old) k r
+children_keep old new k before keeps r =
+    answers_agree (outcome_at new) (outcome_at old) k
+    (all_wider (λ c. c < length old) (λ c. (s : RouteParts) → outcome_at new c s ≡ outcome_at old c s) (children k) (λ c below s. keeps.answers c below s) before) r
+
 -- a node that is there, in a graph that is as before or one longer, is made
-pub is_made : (old new : List NodeKind) (k : NodeKind) (p : ℕ) → AllByRecursion (λ c. c < length old) (children k) → (new ≡ old) ⊎ (new ≡ k ∷ old) → IsAt new p k → IsMade old new k p
-is_made old new k p before grown at = record {
+pub is_made : (old new : List NodeKind) (k : NodeKind) (p : ℕ) → Before old k → IsGrown old new k → AreNodes new → IsAt new p k → IsMade old new k p
+is_made old new k p before grown facts at = record {
   at = at;
   grown = grown;
-  answers = λ r.
-      at.answers r
-      ∙ answers_agree (outcome_at new) (outcome_at old) k
-      (all_wider (λ c. c < length old) (λ c. (s : RouteParts) → outcome_at new c s ≡ outcome_at old c s) (children k) (λ c below s. (keeps_grown old new k grown).answers c below s) before) r;
+  facts = facts;
+  answers = λ r. at.answers r ∙ children_keep old new k before (keeps_grown old new k grown) r;
 }

@@ -2,7 +2,7 @@
 use Rattle.std.specs.Prelude.{◌≡◌, ◌⊎◌, ℕ, ◌<◌, List, ◌∷◌, ◌++◌, length, Some}
 use Rattle.std.specs.List.{AllByRecursion}
 use Rattle.route_types.specs.Route.{RouteParts}
-use Rattle.core_nodes.specs.Nodes.{kind_at, children}
+use Rattle.core_nodes.specs.Nodes.{kind_at, children, AreNodes}
 use Rattle.core_nodes.specs.Outcome.{answer_of, outcome_at}
 use Rattle.core_nodes.specs.declared.node.NodeKind.{NodeKind}
 
@@ -27,5 +27,7 @@ pub record Keeps (old new : List NodeKind) : Type 0 where
 pub record IsMade (old new : List NodeKind) (k : NodeKind) (p : ℕ) : Type 0 where
   pub at : IsAt new p k
   pub grown : (new ≡ old) ⊎ (new ≡ k ∷ old)
+  -- the graph keeps its facts
+  pub facts : AreNodes new
   -- the outcome of the node, by those of its children before
   pub answers : (r : RouteParts) → outcome_at new p r ≡ answer_of (outcome_at old) k r
