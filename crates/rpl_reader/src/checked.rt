@@ -1,0 +1,43 @@
+ghost use Rattle.std.specs.Prelude.{◌≡◌};
+ghost use Rattle.rpl_reader.specs.Profile.{IsPolicyOf};
+
+use route_types::Row;
+use rpl_tree::RplTree;
+use std::marker::Model;
+
+/// A policy that lies in the profile: the tree that it stands in, and its name.
+#[derive(Drop)]
+pub struct CheckedRpl {
+    pub(crate) tree: RplTree,
+    pub(crate) names: Row<Row<u8>>,
+}
+
+impl Model for CheckedRpl {
+    ghost use Rattle.rpl_reader.specs.Profile.{PolicyParts, IsPolicyOf};
+
+    ghost Value = { PolicyParts };
+
+    ghost view = { λ p. record { items = p.tree; names = p.names } };
+
+    ghost invariant = { λ p. IsPolicyOf p.tree p.names };
+}
+
+impl CheckedRpl {
+    /// The tree that the policy stands in. It takes no memory.
+    pub fn tree(&self) -> &RplTree
+        ensures value { result.now ≡ self.now.items }
+        // The policy of the one name is in profile.
+        ensures in_profile { IsPolicyOf self.now.items self.now.names }
+    {
+        &self.tree
+    }
+
+    /// The names of the policy: for RPL there is one. It takes no memory.
+    pub fn names(&self) -> &[Row<u8>]
+        ensures value { result.now ≡ self.now.names }
+        // The policy of the one name is in profile.
+        ensures in_profile { IsPolicyOf self.now.items self.now.names }
+    {
+        self.names.as_slice()
+    }
+}
