@@ -1,10 +1,10 @@
 -- The actions of terms, both ways: an action that is found is spelled by the words, and what is spelled is
 -- found.
-use Rattle.std.proofs.Common.{◌≡◌, refl, sym, ap, ◌∙◌, subst, ℕ, ◌-◌, ◌^◌, Bool, true, false, List, [], ◌∷◌, ◌++◌, Option, Some, None, inl, inr, ◌⊎◌, lit<}
-use Rattle.std.specs.Prelude.{codes, bytes_eq, option_map}
-use Rattle.route_types.specs.Words.{◌>>=◌, number_in, IsNumber}
+use Rattle.std.proofs.Common.{◌≡◌, refl, ap, ℕ, ◌-◌, ◌^◌, List, [], ◌∷◌, Option, Some, inl, inr, lit<}
+use Rattle.std.specs.Prelude.{codes, option_map}
+use Rattle.route_types.specs.Words.{number_in, IsNumber}
 use Rattle.policy_text.specs.Names.{first_some}
-use Rattle.policy_text.specs.Phrases.{Agrees, Behind, One, First, IsOneOf, IsNameWord, after, behind, only, name_in, one_of, first_of}
+use Rattle.policy_text.specs.Phrases.{Agrees, One, First, IsOneOf, IsNameWord, after, behind, only, name_in, one_of, first_of}
 use Rattle.policy_text.proofs.Phrases.{first_found}
 use Rattle.policy_text.proofs.Agree.{one_agrees, first_agrees, behind_agrees, made_found}
 use Rattle.policy_text.proofs.Values.{number_agrees, name_agrees, origin_agrees}

@@ -1,10 +1,10 @@
 -- The conditions of terms, both ways: a condition that is found is spelled by the words, and what is spelled
 -- is found.
-use Rattle.std.proofs.Common.{◌≡◌, refl, sym, ap, ◌∙◌, subst, ℕ, ◌+◌, ◌-◌, ◌^◌, ◌≤◌, Bool, true, false, List, [], ◌∷◌, ◌++◌, Option, Some, None, arith, inl, inr, ◌⊎◌, lit<}
-use Rattle.std.specs.Prelude.{codes, bytes_eq, option_map, IfSome}
+use Rattle.std.proofs.Common.{◌≡◌, refl, ap, ◌∙◌, subst, ℕ, ◌-◌, ◌^◌, ◌≤◌, List, [], ◌∷◌, Option, Some, None, arith, inl, inr, lit<}
+use Rattle.std.specs.Prelude.{codes, IfSome}
 use Rattle.prefix_sets.specs.Range.{RangeParts}
 use Rattle.route_types.specs.Address.{PrefixParts}
-use Rattle.route_types.specs.Words.{◌>>=◌, number_in, prefix_in, address_in, IsAddress}
+use Rattle.route_types.specs.Words.{number_in, prefix_in, address_in, IsAddress}
 use Rattle.route_types.proofs.Numbers.{bind_found, some_is}
 use Rattle.policy_text.specs.Names.{first_some}
 use Rattle.policy_text.specs.Phrases.{Agrees, Behind, One, First, IsOneOf, IsNameWord, after, behind, only, value_at, name_in, one_of, first_of}

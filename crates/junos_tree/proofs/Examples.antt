@@ -1,27 +1,23 @@
 -- Worked examples that the checker computes: a group of forms, and each rule of the tree.
 use Rattle.std.proofs.Common.{◌≡◌, refl, ℕ, Bool, true, false, List, [], ◌∷◌, ◌++◌, Option, Some, None}
 use Rattle.std.specs.Prelude.{codes, map, option_map}
-use Rattle.aspath_text.specs.JunosRead.{junos_pattern_in}
-use Rattle.route_types.specs.Community.{RectParts}
 use Rattle.route_types.specs.RouteLines.{origin_in}
 use Rattle.route_types.specs.Words.{number_in, prefix_in, address_in, parts_at}
 use Rattle.route_types.specs.declared.address.Family.TheVariants.{V4}
 use Rattle.route_types.specs.declared.route.NextHop.TheVariants.{Own}
 use Rattle.route_types.specs.declared.route.Origin.TheVariants.{Egp}
-use Rattle.prefix_sets.specs.Range.{RangeParts}
 use Rattle.text_words.specs.JunosCut.{cut_or_fault, grouped}
 use Rattle.text_words.specs.JunosWords.{tokens_at, step_at, sort_at}
-use Rattle.text_words.specs.declared.statement.Word.{Word}
 use Rattle.policy_text.specs.Phrases.{after, each}
-use Rattle.junos_tree.specs.Forms.{of_keys, values_in, type_in, range_in, named_in, filter_in, attribute_in, condition_in, flow_in, setting_in, change_in, action_in, list_in, policy_in, term_in, community_in, path_in, clause_in, form_in, definition_in}
-use Rattle.junos_tree.specs.Terms.{Term, parts, own_forms, terms_of}
+use Rattle.junos_tree.specs.Forms.{of_keys, values_in, type_in, range_in, named_in, filter_in, attribute_in, condition_in, flow_in, setting_in, change_in, action_in, list_in, policy_in, term_in, community_in, path_in, clause_in, form_in}
+use Rattle.junos_tree.specs.Terms.{parts, own_forms, terms_of}
 use Rattle.junos_tree.specs.Tree.{known_form, opened_at, said_at, items_from, junos_tree}
-use Rattle.junos_tree.specs.Words.{halves_in, member_in, list_member_in, up_to_in, lengths_in, next_hop_in, between_spaces, prepended_in, pattern_in}
+use Rattle.junos_tree.specs.Words.{halves_in, member_in, list_member_in, up_to_in, lengths_in, next_hop_in, between_spaces, prepended_in}
 use Rattle.junos_tree.specs.declared.item.Action.{Action}
 use Rattle.junos_tree.specs.declared.item.Action.TheVariants.{Flow as DoFlow, Metric as SetMetric, Community as ChangeCommunities, Prepend, NextHop as SetNextHop, Origin as SetOrigin}
 use Rattle.junos_tree.specs.declared.item.CommunityVerb.TheVariants.{Set, Delete}
 use Rattle.junos_tree.specs.declared.item.Condition.{Condition}
-use Rattle.junos_tree.specs.declared.item.Condition.TheVariants.{Protocol, Community, Policy, PrefixList, ListFilter, Metric, RouteFilter}
+use Rattle.junos_tree.specs.declared.item.Condition.TheVariants.{Protocol, Community, Policy, ListFilter, Metric}
 use Rattle.junos_tree.specs.declared.item.Flow.TheVariants.{Accept, Reject, NextTerm, NextPolicy}
 use Rattle.junos_tree.specs.declared.item.ItemSort.{ItemSort}
 use Rattle.junos_tree.specs.declared.item.ItemSort.TheVariants.{Community as CommunitySort, Policy as PolicySort, Inner}
@@ -147,8 +143,10 @@ cases =
     ∷ (quote ++ codes "prefix-list" ++ quote ++ codes " A;prefix-list " ++ quote ++ codes "A" ++ quote ++ codes ";", [])
     -- conditions and actions in a term and directly in the policy; in a block they have the places of their own
     -- statements
-    ∷ (codes "policy-statement P{then reject;term t{from metric 5;from{protocol bgp;}then{accept;}}}",
-    PolicyForm (codes "P") ∷ action true (DoFlow Reject) ∷ TermForm (codes "t") ∷ condition false (Metric 5) ∷ condition false (Protocol (codes "bgp" ∷ [])) ∷ action false (DoFlow Accept) ∷ [])
+    ∷ (
+      codes "policy-statement P{then reject;term t{from metric 5;from{protocol bgp;}then{accept;}}}",
+      PolicyForm (codes "P") ∷ action true (DoFlow Reject) ∷ TermForm (codes "t") ∷ condition false (Metric 5) ∷ condition false (Protocol (codes "bgp" ∷ [])) ∷ action false (DoFlow Accept) ∷ [],
+    )
     -- statements of no form in these blocks, one without words and a bare block among them, are items by themselves
     ∷ (codes "policy-statement P{;{then accept;}term t{from{;}foo{then accept;}}from;}", PolicyForm (codes "P") ∷ other Inner None ∷ other Inner None ∷ TermForm (codes "t") ∷ other Inner None ∷ other Inner None ∷ other Inner None ∷ [])
     -- outside and directly in `policy-options` statements without words are foreign

@@ -1,5 +1,5 @@
 -- The words before the last one, as the program takes them.
-use Rattle.std.proofs.Common.{◌≡◌, refl, ap, ℕ, suc, ◌-◌, ◌≤◌, ◌<◌, Bool, true, not, ◌&&◌, List, [], ◌∷◌, length, take, arith}
+use Rattle.std.proofs.Common.{◌≡◌, refl, ap, suc, ◌-◌, ◌≤◌, ◌<◌, Bool, true, not, ◌&&◌, List, [], ◌∷◌, length, take, arith}
 use Rattle.text_words.specs.declared.statement.Word.{Word}
 use Rattle.junos_tree.specs.Tree.{are_plain, are_plain_but_last}
 

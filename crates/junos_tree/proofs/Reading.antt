@@ -1,5 +1,5 @@
 -- A text reads as its tree, and as no other one; the spans of the tree rise.
-use Rattle.std.proofs.Common.{◌≡◌, refl, sym, ap, ◌∙◌, subst, ℕ, ◌≤◌, ◌<◌, Bool, true, false, List, [], ◌∷◌, ◌++◌, append_assoc, length, Option, Some, None, Result, Ok, Err, arith, inl, inr, ◌⊎◌}
+use Rattle.std.proofs.Common.{◌≡◌, refl, sym, ap, ◌∙◌, subst, ℕ, ◌≤◌, ◌<◌, List, [], ◌∷◌, ◌++◌, append_assoc, length, Option, Some, None, Result, Ok, Err, arith, inl, inr}
 use Rattle.std.specs.Prelude.{IfOk, IfSome, option_map}
 use Rattle.route_types.proofs.Numbers.{some_is}
 use Rattle.text_words.specs.JunosCut.{Outcome, cut_in, fault_in, cut_or_fault, junos_cut, junos_fault, HasOne}
@@ -20,7 +20,7 @@ use Rattle.junos_tree.specs.declared.item.JunosForm.TheVariants.{Other}
 use Rattle.junos_tree.specs.declared.item.JunosItem.{JunosItem}
 use Rattle.junos_tree.specs.declared.item.OtherItem.{OtherItem}
 use Rattle.junos_tree.specs.declared.place.Place.{Place}
-use Rattle.junos_tree.specs.declared.place.Place.TheVariants.{Outside, Options, Members, InPolicy, InTerm, From, Then, Passed}
+use Rattle.junos_tree.specs.declared.place.Place.TheVariants.{Outside, InPolicy, InTerm}
 use Rattle.junos_tree.specs.declared.place.Said.{Said}
 use Rattle.junos_tree.specs.declared.place.Said.TheVariants.{Foreign, Opens, Says}
 use Rattle.junos_tree.proofs.Spelled.{is_spelled, is_found}

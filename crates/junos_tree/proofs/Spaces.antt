@@ -1,14 +1,14 @@
 -- What stands between two spaces of a word, and the numbers that stand there.
-use Rattle.std.proofs.Common.{◌≡◌, refl, sym, ap, ◌∙◌, subst, ℕ, ◌-◌, ◌^◌, ◌<◌, ◌≤◌, Bool, true, false, List, [], ◌∷◌, ◌++◌, length, Option, Some, None, arith, lit<}
-use Rattle.std.specs.Prelude.{◌==◌, MatchOption, IfSome}
+use Rattle.std.proofs.Common.{◌≡◌, refl, sym, ap, ◌∙◌, subst, ℕ, ◌-◌, ◌^◌, ◌≤◌, Bool, true, false, List, [], ◌∷◌, ◌++◌, length, Option, Some, None, arith, lit<}
+use Rattle.std.specs.Prelude.{◌==◌}
 use Rattle.std.specs.List.{list_any}
 use Rattle.std.proofs.lemmas.Bool.{eqb-true}
 use Rattle.route_types.specs.RouteText.{onto_word}
-use Rattle.route_types.specs.Words.{◌>>=◌, number_in, parts_at, IsNumber}
+use Rattle.route_types.specs.Words.{number_in, parts_at, IsNumber}
 use Rattle.route_types.proofs.Numbers.{some_is, bind_found, decimal_no_such_byte}
 use Rattle.route_types.proofs.Spelled.{parts_at_behind}
 use Rattle.aspath_text.specs.IosGrammar.{joined_by}
-use Rattle.aspath_text.proofs.JunosCut.{parts_step, texts_step, parts_shorter}
+use Rattle.aspath_text.proofs.JunosCut.{parts_step, texts_step}
 use Rattle.aspath_text.proofs.JunosWords.{parts_none}
 use Rattle.policy_text.specs.Phrases.{Agrees, AreSome, Each, each_onto, some_each}
 use Rattle.policy_text.proofs.Agree.{some_agrees}

@@ -1,26 +1,26 @@
 -- The forms, both ways: a form that is found at a place is spelled by the words, and what is spelled there is
 -- found.
-use Rattle.std.proofs.Common.{◌≡◌, refl, sym, ap, ◌∙◌, subst, ℕ, Bool, true, false, List, [], ◌∷◌, ◌++◌, Option, Some, None, inl, inr, ◌⊎◌}
-use Rattle.std.specs.Prelude.{codes, bytes_eq, option_map}
+use Rattle.std.proofs.Common.{◌≡◌, refl, sym, ap, ◌∙◌, subst, ℕ, Bool, true, false, List, [], ◌∷◌, Option, Some, inl, inr, ◌⊎◌}
+use Rattle.std.specs.Prelude.{codes, option_map}
 use Rattle.route_types.specs.Address.{PrefixParts}
 use Rattle.route_types.specs.Words.{◌>>=◌, when}
-use Rattle.route_types.proofs.Numbers.{bind_found, some_is, when_true}
+use Rattle.route_types.proofs.Numbers.{bind_found, when_true}
 use Rattle.text_words.specs.declared.statement.Ender.{Ender}
 use Rattle.text_words.specs.declared.statement.Ender.TheVariants.{Semi, Open, Line, Close, Comma, Plain}
 use Rattle.text_words.specs.declared.statement.Word.{Word}
 use Rattle.policy_text.specs.Names.{first_some}
 use Rattle.policy_text.specs.Phrases.{texts, Agrees, Behind, One, First, IsNameWord, after, behind, only, name_in, first_of}
-use Rattle.policy_text.proofs.Phrases.{first_found, when_found, map_found}
+use Rattle.policy_text.proofs.Phrases.{first_found, when_found}
 use Rattle.policy_text.proofs.Agree.{one_agrees, first_agrees, behind_agrees, made_found}
 use Rattle.policy_text.proofs.Values.{name_agrees}
 use Rattle.junos_tree.specs.Words.{list_member_in, member_in, pattern_in, IsMember, IsPattern, IsListMember}
 use Rattle.junos_tree.specs.Forms.{of_keys, values_in, list_in, policy_in, term_in, community_in, path_in, community_form, path_form, condition_form, action_form, condition_in, action_in, definition_in, ended, opening, clause_in, form_in}
-use Rattle.junos_tree.specs.Spelling.{SpellValues, SpellNamed, SpellDefinition, EndsDefinition, SpellClause, SpellFrom, SpellThen, SpellMember, SpellTerm, SpellTexts, SpellCondition, SpellAction, Spell}
+use Rattle.junos_tree.specs.Spelling.{SpellValues, SpellDefinition, EndsDefinition, SpellClause, SpellFrom, SpellThen, SpellMember, SpellTerm, SpellTexts, SpellCondition, SpellAction, Spell}
 use Rattle.junos_tree.specs.Tree.{quotes_fit, known_form}
 use Rattle.junos_tree.specs.declared.item.Action.{Action}
 use Rattle.junos_tree.specs.declared.item.Condition.{Condition}
 use Rattle.junos_tree.specs.declared.item.JunosForm.{JunosForm}
-use Rattle.junos_tree.specs.declared.item.JunosForm.TheVariants.{PrefixList as ListForm, Member, Community as CommunityForm, AsPath as PathForm, Policy as PolicyForm, Term, Condition as IsCondition, Action as IsAction, Other}
+use Rattle.junos_tree.specs.declared.item.JunosForm.TheVariants.{PrefixList as ListForm, Member, Community as CommunityForm, AsPath as PathForm, Policy as PolicyForm, Term, Condition as IsCondition, Action as IsAction}
 use Rattle.junos_tree.specs.declared.place.Place.{Place}
 use Rattle.junos_tree.specs.declared.place.Place.TheVariants.{Outside, Options, Members, InPolicy, InTerm, From, Then, Passed}
 use Rattle.junos_tree.proofs.ActionForms.{action_agrees}

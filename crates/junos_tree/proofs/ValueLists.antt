@@ -1,14 +1,13 @@
 -- One value, or several in brackets: both ways, and as the program takes them.
-use Rattle.std.proofs.Common.{◌≡◌, refl, sym, ap, ◌∙◌, subst, ℕ, suc, ◌-◌, ◌≤◌, ◌<◌, Bool, true, false, List, [], ◌∷◌, ◌++◌, length, get_or, take, Option, Some, None, arith, inl, inr, ◌⊎◌}
+use Rattle.std.proofs.Common.{◌≡◌, refl, sym, ap, ◌∙◌, ℕ, suc, ◌-◌, ◌≤◌, ◌<◌, Bool, true, false, List, [], ◌∷◌, ◌++◌, length, get_or, take, Option, Some, None, arith, inl, inr}
 use Rattle.std.specs.Prelude.{codes, bytes_eq, option_map}
-use Rattle.std.proofs.lemmas.Slice.Eq.{bytes_eq-Decides}
 use Rattle.route_types.specs.Words.{◌>>=◌}
 use Rattle.route_types.proofs.Numbers.{bind_found, some_is}
 use Rattle.text_words.specs.declared.statement.Word.{Word}
 use Rattle.policy_text.specs.Names.{first_some}
-use Rattle.policy_text.specs.Phrases.{texts, Agrees, AreSome, Behind, One, after, behind, only, some_each}
+use Rattle.policy_text.specs.Phrases.{texts, Agrees, AreSome, behind, only, some_each}
 use Rattle.policy_text.proofs.Agree.{one_agrees, some_agrees, behind_agrees}
-use Rattle.policy_text.proofs.Phrases.{same_bytes, first_found, map_found, after_spelled}
+use Rattle.policy_text.proofs.Phrases.{same_bytes, first_found, map_found}
 use Rattle.junos_tree.specs.Forms.{before_bracket, bracketed_in, values_in}
 use Rattle.junos_tree.specs.Spelling.{SpellValues}
 

@@ -1,24 +1,23 @@
 -- The words that are no plain numbers, addresses or names agree with what they spell.
-use Rattle.std.proofs.Common.{◌≡◌, refl, sym, ap, ◌∙◌, subst, ℕ, ◌+◌, ◌-◌, ◌^◌, ◌<◌, ◌≤◌, Bool, true, false, ◌&&◌, List, [], ◌∷◌, ◌++◌, length, Option, Some, None, arith, inl, inr, lit<}
-use Rattle.std.specs.Prelude.{codes, decimal, bytes_eq, nat_le, ◌==◌, option_map, IfSome}
+use Rattle.std.proofs.Common.{◌≡◌, refl, sym, ap, ◌∙◌, subst, ℕ, ◌≤◌, Bool, true, false, ◌&&◌, List, [], ◌∷◌, ◌++◌, length, Option, Some, None, arith, inl, inr, lit<}
+use Rattle.std.specs.Prelude.{codes, decimal, bytes_eq, nat_le, ◌==◌, option_map}
 use Rattle.std.specs.List.{list_any}
 use Rattle.std.proofs.lemmas.Bool.{and_parts, eqb-true, leb-true, le-leb, or_from}
 use Rattle.std.proofs.lemmas.List.Folds.{list_any-append}
 use Rattle.route_types.specs.Address.{PrefixParts, prefix_of}
 use Rattle.route_types.specs.Community.{RectParts}
-use Rattle.route_types.specs.Words.{◌>>=◌, when, is_digit, number_in, address_in, prefix_in, parts_at, IsNumber, IsPrefix, IsAddress}
+use Rattle.route_types.specs.Words.{◌>>=◌, when, number_in, address_in, prefix_in, parts_at, IsAddress}
 use Rattle.route_types.specs.declared.address.Address.{Address}
 use Rattle.route_types.specs.declared.route.NextHop.{NextHop}
 use Rattle.route_types.specs.declared.route.NextHop.TheVariants.{At, Own}
-use Rattle.route_types.proofs.Numbers.{bind_found, some_is, when_true, decimal_no_such_byte, decimal_avoids, decimal_starts}
+use Rattle.route_types.proofs.Numbers.{bind_found, some_is, when_true, decimal_no_such_byte}
 use Rattle.route_types.proofs.Spelled.{parts_at_behind, parts_at_found}
 use Rattle.aspath_text.specs.JunosRead.{junos_pattern_in}
-use Rattle.aspath_text.specs.declared.items.TokenPattern.{TokenPattern}
 use Rattle.aspath_text.proofs.JunosRead.{junos_pattern_found, junos_pattern_only}
 use Rattle.aspath_text.proofs.JunosWords.{parts_none}
 use Rattle.policy_text.specs.Names.{first_some}
-use Rattle.policy_text.specs.Phrases.{Agrees, IsOneOf, one_of, only, behind}
-use Rattle.policy_text.proofs.Phrases.{when_found, same_bytes, first_found, map_found, no_keyword}
+use Rattle.policy_text.specs.Phrases.{Agrees, IsOneOf, one_of}
+use Rattle.policy_text.proofs.Phrases.{when_found, same_bytes, first_found, map_found}
 use Rattle.policy_text.proofs.Agree.{one_of_agrees}
 use Rattle.policy_text.proofs.Values.{number_agrees, address_agrees, prefix_agrees}
 use Rattle.junos_tree.specs.Words.{ends, nexts, verbs, filter_types, types, known_members, IsHalf, AreHalves, IsMember, IsListMember, IsLength, IsUpTo, AreLengths, IsNextHop, IsPattern, half_in, halves_in, member_in, list_member_in, length_in, up_to_in, lengths_in, next_hop_in, pattern_in}

@@ -1,6 +1,5 @@
 -- The functions that find which form a statement has. `Spelling` says what the forms are.
 use Rattle.std.specs.Prelude.{ℕ, ◌-◌, ◌^◌, Bool, true, false, List, [], ◌∷◌, Option, Some, None, codes, bytes_eq, option_map}
-use Rattle.route_types.specs.Address.{PrefixParts}
 use Rattle.route_types.specs.Community.{RectParts}
 use Rattle.route_types.specs.RouteLines.{origin_in}
 use Rattle.route_types.specs.Words.{◌>>=◌, number_in, prefix_in, address_in}
@@ -15,7 +14,6 @@ use Rattle.junos_tree.specs.declared.item.Condition.{Condition}
 use Rattle.junos_tree.specs.declared.item.Condition.TheVariants.{Protocol, Community, AsPath, NextHop, Policy, PrefixList, RouteFilter, ListFilter, Metric, LocalPreference, Origin}
 use Rattle.junos_tree.specs.declared.item.Action.{Action}
 use Rattle.junos_tree.specs.declared.item.Action.TheVariants.{Flow as FlowAction, Metric as SetMetric, LocalPreference as SetLocalPreference, Origin as SetOrigin, NextHop as SetNextHop, Community as ChangeCommunities, Prepend}
-use Rattle.junos_tree.specs.declared.item.CommunityVerb.{CommunityVerb}
 use Rattle.junos_tree.specs.declared.item.Flow.{Flow}
 use Rattle.junos_tree.specs.declared.item.JunosForm.{JunosForm}
 use Rattle.junos_tree.specs.declared.item.JunosForm.TheVariants.{PrefixList as ListForm, Member, Community as CommunityForm, AsPath as PathForm, Policy as PolicyForm, Term, Condition as IsCondition, Action as IsAction}

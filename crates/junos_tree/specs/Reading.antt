@@ -1,5 +1,5 @@
 -- How a text reads as a tree: its statements one by one, each in the blocks that are open before it.
-use Rattle.std.specs.Prelude.{◌≡◌, ℕ, ◌⊎◌, List, [], ◌∷◌, ◌++◌, Option, Some, None}
+use Rattle.std.specs.Prelude.{◌≡◌, ℕ, ◌⊎◌, List, [], ◌∷◌, ◌++◌, Some, None}
 use Rattle.text_words.specs.JunosCut.{junos_cut}
 use Rattle.text_words.specs.declared.statement.Ender.{Ender}
 use Rattle.text_words.specs.declared.statement.Ender.TheVariants.{Close}

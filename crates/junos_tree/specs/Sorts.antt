@@ -4,7 +4,7 @@ use Rattle.policy_text.specs.Names.{is_named}
 use Rattle.junos_tree.specs.declared.item.ItemSort.{ItemSort}
 use Rattle.junos_tree.specs.declared.item.ItemSort.TheVariants.{PrefixList, Community, AsPath, Policy, Inner}
 use Rattle.junos_tree.specs.declared.item.JunosForm.{JunosForm}
-use Rattle.junos_tree.specs.declared.item.JunosForm.TheVariants.{PrefixList as ListForm, Member, Community as CommunityForm, AsPath as PathForm, Policy as PolicyForm, Term, Condition, Action, Other}
+use Rattle.junos_tree.specs.declared.item.JunosForm.TheVariants.{PrefixList as ListForm, Community as CommunityForm, AsPath as PathForm, Policy as PolicyForm, Other}
 use Rattle.junos_tree.specs.declared.item.JunosItem.{JunosItem}
 
 -- what a form is

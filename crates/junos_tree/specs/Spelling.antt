@@ -1,6 +1,6 @@
 -- Which words spell which form (Junos OS Routing Policies, Firewall Filters, and Traffic Policers User
 -- Guide: 'prefix-list', 'community', 'as-path', 'policy-statement', match conditions and actions).
-use Rattle.std.specs.Prelude.{◌≡◌, ℕ, ◌-◌, ◌^◌, Bool, true, false, ◌⊎◌, List, [], ◌∷◌, ◌++◌, Option, Some, None, codes}
+use Rattle.std.specs.Prelude.{◌≡◌, ℕ, ◌-◌, ◌^◌, Bool, true, false, ◌⊎◌, List, [], ◌∷◌, ◌++◌, codes}
 use Rattle.route_types.specs.RouteText.{SpellsOrigin}
 use Rattle.route_types.specs.Words.{IsNumber, IsAddress, IsPrefix}
 use Rattle.prefix_sets.specs.Range.{RangeParts}
@@ -16,7 +16,7 @@ use Rattle.junos_tree.specs.declared.item.Action.{Action}
 use Rattle.junos_tree.specs.declared.item.Action.TheVariants.{Flow as FlowAction, Metric as SetMetric, LocalPreference as SetLocalPreference, Origin as SetOrigin, NextHop as SetNextHop, Community as ChangeCommunities, Prepend}
 use Rattle.junos_tree.specs.declared.item.Flow.{Flow}
 use Rattle.junos_tree.specs.declared.item.JunosForm.{JunosForm}
-use Rattle.junos_tree.specs.declared.item.JunosForm.TheVariants.{PrefixList as ListForm, Member, Community as CommunityForm, AsPath as PathForm, Policy as PolicyForm, Term, Condition as IsCondition, Action as IsAction, Other}
+use Rattle.junos_tree.specs.declared.item.JunosForm.TheVariants.{PrefixList as ListForm, Member, Community as CommunityForm, AsPath as PathForm, Policy as PolicyForm, Term, Condition as IsCondition, Action as IsAction}
 use Rattle.junos_tree.specs.declared.place.Place.{Place}
 use Rattle.junos_tree.specs.declared.place.Place.TheVariants.{Outside, Options, Members, InPolicy, InTerm, From, Then, Passed}
 

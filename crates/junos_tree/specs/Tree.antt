@@ -2,12 +2,12 @@
 -- block that it opens. Forms stand outside blocks and directly in a block `policy-options`; a statement
 -- there that starts with one of the four keywords and a name, but spells no form, is an item under this
 -- name. All other statements there are foreign and passed over, with their blocks.
-use Rattle.std.specs.Prelude.{ℕ, Bool, true, false, not, ◌&&◌, List, [], ◌∷◌, ◌++◌, Option, Some, None, Result, Ok, Err, codes, bytes_eq, drop, option_map}
+use Rattle.std.specs.Prelude.{ℕ, Bool, true, false, not, ◌&&◌, List, [], ◌∷◌, ◌++◌, Option, Some, None, codes, bytes_eq, drop, option_map}
 use Rattle.std.specs.List.{list_all}
 use Rattle.route_types.specs.Words.{◌>>=◌, when}
 use Rattle.text_words.specs.JunosCut.{junos_cut}
 use Rattle.text_words.specs.declared.statement.Ender.{Ender}
-use Rattle.text_words.specs.declared.statement.Ender.TheVariants.{Semi, Open, Close}
+use Rattle.text_words.specs.declared.statement.Ender.TheVariants.{Open, Close}
 use Rattle.text_words.specs.declared.statement.Span.{Span}
 use Rattle.text_words.specs.declared.statement.Statement.{Statement}
 use Rattle.text_words.specs.declared.statement.Word.{Word}

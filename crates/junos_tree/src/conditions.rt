@@ -8,8 +8,8 @@ ghost use Rattle.junos_tree.specs.Forms.{of_keys, before_bracket, bracketed_in, 
 use crate::item::{Condition, ListFilter};
 use crate::words::{FilterWord, lengths_in, type_in as word_type_in, up_to_in};
 use policy_text::{
-    AddressWord, NameWord, Number32, OriginWord, Reads, Word, after, is, one_behind, one_word, read_prefix,
-    some_words, value_at,
+    AddressWord, NameWord, Number32, OriginWord, Reads, Word, after, is, one_behind, one_word,
+    read_prefix, some_words, value_at,
 };
 use prefix_sets::PrefixRange;
 use route_types::{Address, Memory, Origin, Row};

@@ -126,11 +126,7 @@ fn opening_definition_in(alloc: Global, words: &[Word]) -> Result<Option<JunosFo
 }
 
 // A definition, by what ends its statement.
-fn definition_in(
-    alloc: Global,
-    ender: Ender,
-    words: &[Word],
-) -> Result<Option<JunosForm>, Memory>
+fn definition_in(alloc: Global, ender: Ender, words: &[Word]) -> Result<Option<JunosForm>, Memory>
     ensures { IfOk result (λ o. o ≡ definition_in ender (texts words.now)) }
 {
     match ender {
@@ -189,11 +185,7 @@ fn action_behind(alloc: Global, words: &[Word]) -> Result<Option<Action>, Memory
 
 // `from C`, `then T`
 #[tactic(auto, unfolding(crate::specs::Forms::of_keys, crate::specs::Forms::clause_in))]
-fn clause_in(
-    alloc: Global,
-    unnamed: bool,
-    words: &[Word],
-) -> Result<Option<JunosForm>, Memory>
+fn clause_in(alloc: Global, unnamed: bool, words: &[Word]) -> Result<Option<JunosForm>, Memory>
     ensures { IfOk result (λ o. o ≡ clause_in unnamed (texts words.now)) }
 {
     if let Some(condition) = condition_behind(alloc, words)? {
@@ -207,11 +199,7 @@ fn clause_in(
 
 // Directly in a policy.
 #[tactic(auto, unfolding(crate::specs::Forms::form_in))]
-fn policy_part_in(
-    alloc: Global,
-    ender: Ender,
-    words: &[Word],
-) -> Result<Option<JunosForm>, Memory>
+fn policy_part_in(alloc: Global, ender: Ender, words: &[Word]) -> Result<Option<JunosForm>, Memory>
     ensures { IfOk result (λ o. o ≡ form_in InPolicy ender (texts words.now)) }
 {
     match ender {
@@ -223,11 +211,7 @@ fn policy_part_in(
 
 // Directly in a term.
 #[tactic(auto, unfolding(crate::specs::Forms::form_in))]
-fn term_part_in(
-    alloc: Global,
-    ender: Ender,
-    words: &[Word],
-) -> Result<Option<JunosForm>, Memory>
+fn term_part_in(alloc: Global, ender: Ender, words: &[Word]) -> Result<Option<JunosForm>, Memory>
     ensures { IfOk result (λ o. o ≡ form_in InTerm ender (texts words.now)) }
 {
     match ender {
