@@ -61,7 +61,8 @@ module _ (takes : IosForm → Bool) (name : List ℕ) (all rest : List IosItem) 
     unfolding first_fault_from
     passes m next more m-is none behind = pass rest long is m-is walking.2
       where
-        pass : (is : List IosItem) → 1 ≤ length is → item ≡ get_or is 0 item → m ≡ length is - 1 → fault_from walking.0 is ≡ fault_from [] all → IsWalking takes name all (take m (drop 1 is)) next more
+        pass : (is : List IosItem) → 1 ≤ length is → item ≡ get_or is 0 item → m ≡ length is - 1 → fault_from walking.0 is ≡ fault_from [] all
+            → IsWalking takes name all (take m (drop 1 is)) next more
         pass [] long same m-is e = absurd (omega arith)
         pass (i ∷ is) long same m-is e =
             let rest : take m is ≡ is = take_all m is (omega (arith, m-is)) in

@@ -41,7 +41,8 @@ no_kind kind = elim (cases_order kind 15) [
 abbrev among : ℕ → List MapLine → Bool
 among kind lines = list_any (λ l. kind == kind_of l) lines
 
-kinds_more : (kinds : List Bool) (lines : List MapLine) (form : IosForm) → length kinds ≡ 15 → IfSome (line_in form) (λ l. kind_of l < 15) → ((kind : ℕ) → has_kind kinds kind ≡ among kind lines)
+kinds_more : (kinds : List Bool) (lines : List MapLine) (form : IosForm) → length kinds ≡ 15 → IfSome (line_in form) (λ l. kind_of l < 15)
+    → ((kind : ℕ) → has_kind kinds kind ≡ among kind lines)
     → (kind : ℕ) → has_kind (kinds_with kinds form) kind ≡ among kind (onto_lines form lines)
 kinds_more kinds lines (Line l) len within are kind = flag_more kinds (kind_of l) kind (omega (arith, within, len)) ∙ ap (λ (b : Bool). (kind == kind_of l) || b) (are kind)
 kinds_more kinds lines _ len within are kind = are kind
@@ -53,7 +54,8 @@ kinds_len kinds _ = refl
 -- ---- one more item
 
 module _ (name : List ℕ) (before : List IosItem) (place next : Place) (marks more : Marks) (i : IosItem) (behind : IsBehind name before place marks) (keeps : KeepsMark marks more i) where
-  one_more : next.inside ≡ is_inside name (i ∷ before) → option_map (λ h. h.now) next.header ≡ open_header (i ∷ before) → ((k : ℕ) → has_kind next.kinds k ≡ among k (open_lines (i ∷ before)))
+  one_more : next.inside ≡ is_inside name (i ∷ before) → option_map (λ h. h.now) next.header ≡ open_header (i ∷ before)
+      → ((k : ℕ) → has_kind next.kinds k ≡ among k (open_lines (i ∷ before)))
       → length next.kinds ≡ 15 → IsBehind name (i ∷ before) next more
   one_more inside header kinds len = record {
     tells = λ j. record {
@@ -66,7 +68,8 @@ module _ (name : List ℕ) (before : List IosItem) (place next : Place) (marks m
   }
 
   -- behind a line
-  pub behind_line : is_line i ≡ true → next.inside ≡ place.inside → option_map (λ h. h.now) next.header ≡ option_map (λ h. h.now) place.header → next.kinds ≡ kinds_with place.kinds i.form
+  pub behind_line : is_line i ≡ true → next.inside ≡ place.inside → option_map (λ h. h.now) next.header ≡ option_map (λ h. h.now) place.header
+      → next.kinds ≡ kinds_with place.kinds i.form
       → IfSome (line_in i.form) (λ l. kind_of l < 15) → IsBehind name (i ∷ before) next more
   behind_line line inside header kinds within =
       let more_kinds : (k : ℕ) → has_kind (kinds_with place.kinds i.form) k ≡ among k (onto_lines i.form (open_lines before)) =
@@ -75,7 +78,8 @@ module _ (name : List ℕ) (before : List IosItem) (place next : Place) (marks m
       (λ k. rw (open_lines, line) (ap (λ (ks : List Bool). has_kind ks k) kinds ∙ more_kinds k)) (ap (λ (ks : List Bool). length ks) kinds ∙ kinds_len place.kinds i.form ∙ behind.len)
 
   -- behind any other item
-  pub behind_other : is_line i ≡ false → next.inside ≡ heads name i → option_map (λ h. h.now) next.header ≡ header_in i.form → next.kinds ≡ no_kinds → IsBehind name (i ∷ before) next more
+  pub behind_other : is_line i ≡ false → next.inside ≡ heads name i → option_map (λ h. h.now) next.header ≡ header_in i.form → next.kinds ≡ no_kinds
+      → IsBehind name (i ∷ before) next more
   behind_other line inside header kinds =
       one_more (rw (is_inside, line) inside) (rw (open_header, line) header)
       (λ k. rw (open_lines, line) (ap (λ (ks : List Bool). has_kind ks k) kinds ∙ no_kind k)) (ap (λ (ks : List Bool). length ks) kinds)
