@@ -38,7 +38,8 @@ form_answers : (list : List ℕ) (form : IosForm) (es : List CommunityListEntry)
 form_answers list (OfCommunityList e) es fs c more = entry_answers list e es fs c (bytes_eq list e.list) more
 form_answers list _ es fs c more = more
 
-same_answers : (list : List ℕ) (all : List IosItem) (c : Community) → answers_alone (entries_named list all) c ≡ list_answers (community_list false list all) (c ∷ [])
+-- entries answer on a community alone as the list does
+pub same_answers : (list : List ℕ) (all : List IosItem) (c : Community) → answers_alone (entries_named list all) c ≡ list_answers (community_list false list all) (c ∷ [])
 unfolding list_answers
 same_answers list [] c = refl
 same_answers list (i ∷ is) c = form_answers list i.form (entries_named list is) (community_list false list is) c (same_answers list is c)

@@ -28,7 +28,8 @@ fn is_line_sort(sort: ItemSort) -> bool
     }
 }
 
-fn is_line(form: &IosForm) -> bool
+/// Whether a statement is a line of the entry above it, of a form or of none.
+pub fn is_line(form: &IosForm) -> bool
     ensures { result ≡ is_line_sort (sort_of_form form.now) }
 {
     match form {
@@ -82,7 +83,7 @@ fn entries_of<'a>(
     Ok(found)
 }
 
-/// The entries of the map of this name, in order of their numbers.
+/// The entries of the map of this name, in order of their numbers. The one error is want of memory.
 pub fn ordered_entries<'a>(
     alloc: Global,
     name: &[u8],

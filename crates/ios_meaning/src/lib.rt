@@ -15,4 +15,5 @@ mod path_answers;
 mod prefix_answers;
 mod reach;
 
+pub use entries::{MapEntry, is_line, ordered_entries};
 pub use judge::judge_ios;
