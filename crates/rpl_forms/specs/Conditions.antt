@@ -7,7 +7,7 @@ use Rattle.route_types.specs.declared.route.Origin.{Origin}
 use Rattle.route_types.specs.RouteText.{SpellsOrigin}
 use Rattle.route_types.specs.RouteLines.{origin_in}
 use Rattle.policy_text.specs.Names.{first_some}
-use Rattle.rpl_forms.specs.Tokens.{Token, plain, IsPlain, One, Behind, plain_in, only, after, behind, parted}
+use Rattle.rpl_forms.specs.Tokens.{Token, plain, IsPlain, One, Behind, plain_in, only, after, behind, place_of}
 use Rattle.rpl_forms.specs.Elements.{SpellPrefixElement, SpellRect, SpellPathElement, SpellPathTest, SpellCompared, SpellSet, prefix_element_in, rect_element_in, path_element_in, path_test_in, compared_in, set_in}
 use Rattle.rpl_forms.specs.declared.condition.RplTest.{RplTest}
 use Rattle.rpl_forms.specs.declared.condition.RplTest.TheVariants.{Destination, NextHop, PathIn, Path, MatchesAny, MatchesEvery, IsEmpty, Med, Origin as OfOrigin}
@@ -115,25 +115,32 @@ test_in ts =
 abbrev pub set_words : List Token → ℕ
 set_words ts = elim (after (codes "(" ∷ []) ts) [
   | None ↦ 1
-  | Some inner ↦ elim (parted (codes ")") inner) [ None ↦ suc (length inner) | Some p ↦ 2 + length p.0 ]
+  | Some inner ↦ elim (place_of (codes ")") inner) [ None ↦ length inner + 1 | Some n ↦ n + 2 ]
 ]
 
 -- the words begin with these
-abbrev pub begin_with : List (List ℕ) → List Token → Bool
+unfoldable pub begin_with : List (List ℕ) → List Token → Bool
 begin_with keys ts = elim (after keys ts) [ None ↦ false | Some rest ↦ true ]
 
--- the test that begins here asks for a set
-abbrev pub asks_for_set : List Token → Bool
-asks_for_set ts =
-    begin_with (codes "destination" ∷ codes "in" ∷ []) ts || begin_with (codes "next-hop" ∷ codes "in" ∷ []) ts || begin_with (codes "as-path" ∷ codes "in" ∷ []) ts
-    || begin_with (codes "community" ∷ codes "matches-any" ∷ []) ts || begin_with (codes "community" ∷ codes "matches-every" ∷ []) ts
+-- a test begins here that asks for a set of prefixes
+unfoldable pub asks_for_prefixes : List Token → Bool
+asks_for_prefixes ts = begin_with (codes "destination" ∷ codes "in" ∷ []) ts || begin_with (codes "next-hop" ∷ codes "in" ∷ []) ts
 
--- how many words a test takes that begins here
-unfoldable pub test_words : List Token → ℕ
-test_words ts = elim (asks_for_set ts) [
-  | true ↦ 2 + set_words (drop 2 ts)
-  | false ↦ elim (begin_with (codes "as-path" ∷ codes "length" ∷ []) ts) [
-    | true ↦ 4
-    | false ↦ elim (begin_with (codes "community" ∷ codes "is-empty" ∷ []) ts) [ true ↦ 2 | false ↦ 3 ]
-  ]
+-- a test begins here that asks for a set of communities
+unfoldable pub asks_for_communities : List Token → Bool
+asks_for_communities ts = begin_with (codes "community" ∷ codes "matches-any" ∷ []) ts || begin_with (codes "community" ∷ codes "matches-every" ∷ []) ts
+
+-- a test begins here that asks for a set
+unfoldable pub asks_for_set : List Token → Bool
+asks_for_set ts = asks_for_prefixes ts || (asks_for_communities ts || begin_with (codes "as-path" ∷ codes "in" ∷ []) ts)
+
+-- how many words a test without a set that begins here takes behind its first word
+unfoldable pub value_words : List Token → ℕ
+value_words ts = elim (begin_with (codes "as-path" ∷ codes "length" ∷ []) ts) [
+  | true ↦ 3
+  | false ↦ elim (begin_with (codes "community" ∷ codes "is-empty" ∷ []) ts) [ true ↦ 1 | false ↦ 2 ]
 ]
+
+-- how many words a test that begins here takes behind its first word
+unfoldable pub words_behind : List Token → ℕ
+words_behind ts = elim (asks_for_set ts) [ true ↦ set_words (drop 2 ts) + 1 | false ↦ value_words ts ]

@@ -134,13 +134,17 @@ compared_in within most ts = first_of (plain_in comparison_in) (only (plain_in (
 unfoldable pub quoted_number_in : Bool → List ℕ → List Token → Option (RplNumber ℕ)
 quoted_number_in within key ts = behind (key ∷ []) (only (quoted_in (rpl_number_in within (2 ^ 32 - 1)))) ts
 
+-- a test of a number that stands in the path
+unfoldable pub standing_test_in : Bool → List Token → Option PathTest
+standing_test_in within ts =
+    first_some (option_map (λ n. PassesThrough n) (quoted_number_in within (codes "passes-through") ts))
+    (first_some (option_map (λ n. OriginatesFrom n) (quoted_number_in within (codes "originates-from") ts))
+    (option_map (λ n. NeighborIs n) (quoted_number_in within (codes "neighbor-is") ts)))
+
 -- a test of a path
 unfoldable pub path_test_in : Bool → List Token → Option PathTest
 path_test_in within ts =
-    first_some (option_map (λ c. Length (record { comparison = c.0; length = c.1 })) (behind (codes "length" ∷ []) (compared_in within 2047) ts))
-    (first_some (option_map (λ n. PassesThrough n) (quoted_number_in within (codes "passes-through") ts))
-    (first_some (option_map (λ n. OriginatesFrom n) (quoted_number_in within (codes "originates-from") ts))
-    (option_map (λ n. NeighborIs n) (quoted_number_in within (codes "neighbor-is") ts))))
+    first_some (option_map (λ c. Length (record { comparison = c.0; length = c.1 })) (behind (codes "length" ∷ []) (compared_in within 2047) ts)) (standing_test_in within ts)
 
 -- an element of a path set
 unfoldable pub path_element_in : Bool → List Token → Option PathElement

@@ -1,7 +1,7 @@
 -- Headers of blocks, elements of sets and statements of policies (Cisco IOS XR Routing Configuration
 -- Guide, 'route-policy', 'set med', 'set community', 'delete', 'prepend as-path', 'apply' and others).
 -- First what the words are; behind it the functions that find the forms.
-use Rattle.std.specs.Prelude.{◌≡◌, ℕ, ◌-◌, ◌||◌, ◌≤◌, ◌^◌, Bool, true, false, nat_le, ◌⊎◌, List, [], ◌∷◌, ◌++◌, Option, Some, None, codes, bytes_eq, option_map, position, take}
+use Rattle.std.specs.Prelude.{◌≡◌, ℕ, ◌-◌, ◌||◌, ◌≤◌, ◌^◌, Bool, true, false, nat_le, ◌⊎◌, List, [], ◌∷◌, ◌++◌, Option, Some, None, codes, bytes_eq, option_map}
 use Rattle.route_types.specs.Community.{RectParts}
 use Rattle.route_types.specs.Words.{◌>>=◌, when, address_in, IsAddress}
 use Rattle.route_types.specs.declared.address.Address.{Address}
@@ -15,7 +15,7 @@ use Rattle.route_types.specs.RouteText.{SpellsOrigin}
 use Rattle.route_types.specs.RouteLines.{origin_in}
 use Rattle.policy_text.specs.Names.{first_some}
 use Rattle.policy_text.specs.Phrases.{one_of}
-use Rattle.rpl_forms.specs.Tokens.{Token, plain, tokens, is_key, IsPlain, One, Behind, First, UpTo, Called, plain_in, only, behind, first_of, up_to, called_in}
+use Rattle.rpl_forms.specs.Tokens.{Token, plain, token, tokens, is_key, IsPlain, One, Behind, First, UpTo, Called, plain_in, only, behind, first_of, up_to, before, called_in}
 use Rattle.rpl_forms.specs.Values.{IsHeaderName, IsInnerName, IsParameter, IsNumberWord, header_name_in, inner_name_in, parameter_in, rpl_number_in}
 use Rattle.rpl_forms.specs.Elements.{SpellPrefixElement, SpellRect, SpellPathElement, SpellSet, prefix_element_in, rect_element_in, path_element_in, set_in}
 use Rattle.rpl_forms.specs.Conditions.{SpellTerms}
@@ -173,11 +173,13 @@ before_last key [] = None
 before_last key (t ∷ []) = when (is_key key t) []
 before_last key (t ∷ u ∷ ts) = option_map (λ front. t ∷ front) (before_last key (u ∷ ts))
 
+-- a set with `additive` behind it
+unfoldable pub added_in : List Token → Option (RplSet RectParts)
+added_in ts = before_last (codes "additive") ts >>= set_in rect_element_in
+
 -- a set, and whether `additive` stands behind it
 unfoldable pub setting_in : List Token → Option (RplSet RectParts × Bool)
-setting_in ts =
-    first_some (option_map (λ s. (s, false)) (set_in rect_element_in ts))
-    (option_map (λ s. (s, true)) (before_last (codes "additive") ts >>= set_in rect_element_in))
+setting_in ts = first_some (option_map (λ s. (s, false)) (set_in rect_element_in ts)) (option_map (λ s. (s, true)) (added_in ts))
 
 -- a statement that sets a number
 unfoldable pub set_number_in : List Token → Option Action
@@ -234,15 +236,7 @@ form_in CommunityBlock ts = option_map (λ r. OfElement (CommunityOf r)) (rect_e
 form_in PathBlock ts = option_map (λ e. OfElement (PathOf e)) (path_element_in false ts)
 form_in PolicyBlock ts = option_map (λ s. OfStatement s) (statement_in ts)
 
--- the word is this keyword
-abbrev pub is_word : List ℕ → Word → Bool
-is_word key w = is_key key (record { text = w.text; quoted = w.quoted })
-
--- the words before `then`
-abbrev pub before_then : List Word → List Word
-before_then ws = elim (position (is_word (codes "then")) ws) [ None ↦ ws | Some n ↦ take n ws ]
-
 -- where the tests stand in a statement with a condition, in their order
 unfoldable pub tests_in : List Word → List Span
 tests_in [] = []
-tests_in (w ∷ ws) = elim (is_word (codes "if") w || is_word (codes "elseif") w) [ true ↦ spans_behind 0 (before_then ws) | false ↦ [] ]
+tests_in (w ∷ ws) = elim (is_key (codes "if") (token w) || is_key (codes "elseif") (token w)) [ true ↦ spans_behind 0 (before (codes "then") ws) | false ↦ [] ]

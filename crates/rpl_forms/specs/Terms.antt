@@ -1,13 +1,14 @@
 -- The function that finds the terms of a condition: its words are marks, each a test or one of `(`, `)`,
 -- `not`, `and` and `or`, and the marks are read from the front, what waits for an operand kept aside.
-use Rattle.std.specs.Prelude.{ℕ, zero, suc, ◌+◌, ◌-◌, Bool, true, false, List, [], ◌∷◌, ◌++◌, Option, Some, None, codes, length, take, option_map}
+use Rattle.std.specs.Prelude.{ℕ, zero, suc, ◌+◌, ◌-◌, Bool, true, false, List, [], ◌∷◌, ◌++◌, Option, Some, None, codes, length, take, drop, option_map}
 use Rattle.route_types.specs.Words.{◌>>=◌}
 use Rattle.text_words.specs.LineCut.{end_of}
 use Rattle.text_words.specs.declared.statement.Span.{Span}
 use Rattle.text_words.specs.declared.statement.Word.{Word}
 use Rattle.policy_text.specs.Phrases.{one_of}
-use Rattle.rpl_forms.specs.Tokens.{Token, tokens, plain_in}
-use Rattle.rpl_forms.specs.Conditions.{test_in, test_words}
+use Rattle.rpl_forms.specs.Tokens.{Token, token, tokens, plain_in}
+use Rattle.rpl_forms.specs.Conditions.{test_in, words_behind}
+use Rattle.rpl_forms.specs.declared.condition.RplTest.{RplTest}
 use Rattle.rpl_forms.specs.declared.condition.Term.{Term}
 use Rattle.rpl_forms.specs.declared.condition.Term.TheVariants.{Test, Group, Not, And, Or}
 use Rattle.rpl_forms.specs.declared.marks.Mark.{Mark}
@@ -24,13 +25,21 @@ signs = (codes "(", Opens) ∷ (codes ")", Closes) ∷ (codes "not", Negates) �
 unfoldable pub sign_in : Token → Option Mark
 sign_in t = plain_in (one_of signs) t
 
--- the test that begins here, and how many words it takes behind the first
-abbrev pub test_at : List Token → Option (Mark × ℕ)
-test_at ts = test_in (take (test_words ts) ts) >>= λ test. Some (Asks test, test_words ts - 1)
+-- the word is a mark by itself
+abbrev pub is_sign : Token → Bool
+is_sign t = elim (sign_in t) [ None ↦ false | Some m ↦ true ]
 
 -- the mark that begins with this word, and how many words it takes behind it
 unfoldable pub mark_at : Token → List Token → Option (Mark × ℕ)
-mark_at t ts = elim (sign_in t) [ Some m ↦ Some (m, 0) | None ↦ test_at (t ∷ ts) ]
+mark_at t ts = elim (sign_in t) [
+  | Some m ↦ Some (m, 0)
+  | None ↦ option_map (λ test. (Asks test, words_behind (t ∷ ts))) (test_in (t ∷ take (words_behind (t ∷ ts)) ts))
+]
+
+-- the mark that begins here, and the words behind it
+unfoldable pub marked_at : List Token → Option (Mark × List Token)
+marked_at [] = None
+marked_at (t ∷ ts) = option_map (λ m. (m.0, drop m.1 ts)) (mark_at t ts)
 
 -- the marks behind so many words, which belong to a mark before them
 unfoldable pub marks_behind : ℕ → List Token → Option (List Mark)
@@ -81,15 +90,36 @@ terms_from (Has either) [] [] = Some (divided either)
 terms_from standing around [] = None
 terms_from standing around (m ∷ ms) = taken standing around m >>= λ t. option_map (λ ts. t.terms ++ ts) (terms_from t.standing t.around ms)
 
+-- a reading under way: the terms so far, and those of the marks behind them
+abbrev pub read_on : List Term → Standing → List Level → List Mark → Option (List Term)
+read_on terms standing around ms = option_map (λ ts. terms ++ ts) (terms_from standing around ms)
+
+-- a reading under way behind a mark
+abbrev pub after_mark : List Term → Option Taken → Option (List Term × Standing × List Level)
+after_mark terms o = option_map (λ t. (terms ++ t.terms, t.standing, t.around)) o
+
+-- a reading under way: the terms so far, and those of the words behind them
+abbrev pub read_words : List Term → Standing → List Level → List Token → Option (List Term)
+read_words terms standing around ts = marks_behind 0 ts >>= read_on terms standing around
+
+-- the same, where words are left that may stand there
+abbrev pub read_left : List Term → Standing → List Level → Option (List Token) → Option (List Term)
+read_left terms standing around o = o >>= read_words terms standing around
+
+-- how many `not`s wait for the operand that is wanted
+abbrev pub nots_of : Standing → ℕ
+nots_of (Wants level) = level.nots
+nots_of (Has either) = 0
+
 -- the terms of a condition
 unfoldable pub condition_in : List Token → Option (List Term)
-condition_in ts = marks_behind 0 ts >>= terms_from (Wants nothing_waits) []
+condition_in ts = read_words [] (Wants nothing_waits) [] ts
 
 -- where the tests stand behind so many words, which belong to a mark before them: each from its first word to the end of its last
 unfoldable pub spans_behind : ℕ → List Word → List Span
 spans_behind n [] = []
 spans_behind (suc n) (w ∷ ws) = spans_behind n ws
-spans_behind zero (w ∷ ws) = elim (sign_in (record { text = w.text; quoted = w.quoted })) [
-  | Some m ↦ spans_behind 0 ws
-  | None ↦ record { start = w.span.start; end = end_of w.span.end (take (test_words (tokens (w ∷ ws)) - 1) ws) } ∷ spans_behind (test_words (tokens (w ∷ ws)) - 1) ws
+spans_behind zero (w ∷ ws) = elim (is_sign (token w)) [
+  | true ↦ spans_behind 0 ws
+  | false ↦ record { start = w.span.start; end = end_of w.span.end (take (words_behind (tokens (w ∷ ws))) ws) } ∷ spans_behind (words_behind (tokens (w ∷ ws))) ws
 ]

@@ -1,6 +1,6 @@
 -- The words of RPL statements, of which some stand in quotes, and how forms are made of them. First what
 -- the words are; behind it the functions that find the values, in the same order.
-use Rattle.std.specs.Prelude.{◌≡◌, ℕ, Bool, true, false, ◌&&◌, not, List, [], ◌∷◌, ◌++◌, Option, Some, None, codes, bytes_eq, map, option_map}
+use Rattle.std.specs.Prelude.{◌≡◌, ℕ, suc, Bool, true, false, ◌&&◌, not, List, [], ◌∷◌, ◌++◌, Option, Some, None, codes, bytes_eq, map, option_map, take}
 use Rattle.std.specs.List.{list_any}
 use Rattle.route_types.specs.Words.{◌>>=◌, when}
 use Rattle.text_words.specs.declared.statement.Word.{Word}
@@ -18,9 +18,13 @@ plain text = record { text = text; quoted = false }
 abbrev pub in_quotes : List ℕ → Token
 in_quotes text = record { text = text; quoted = true }
 
--- the words, apart from where they stand
+-- the word of a text, apart from where it stands
+abbrev pub token : Word → Token
+token w = record { text = w.text; quoted = w.quoted }
+
+-- the words of a text, apart from where they stand
 abbrev pub tokens : List Word → List Token
-tokens ws = map (λ w. record { text = w.text; quoted = w.quoted }) ws
+tokens ws = map token ws
 
 -- the word is this keyword: a quoted word is none
 abbrev pub is_key : List ℕ → Token → Bool
@@ -101,6 +105,15 @@ first_of f g (t ∷ ts) = do
   y ← g ts
   Some (x, y)
 
+-- the place where this keyword first stands
+unfoldable pub place_of : List ℕ → List Token → Option ℕ
+place_of key [] = None
+place_of key (t ∷ ts) = elim (is_key key t) [ true ↦ Some 0 | false ↦ option_map (λ n. suc n) (place_of key ts) ]
+
+-- the words before this keyword where it first stands, or all of them
+abbrev pub before : List ℕ → List Word → List Word
+before key ws = elim (place_of key (tokens ws)) [ None ↦ ws | Some n ↦ take n ws ]
+
 -- the words before this keyword where it first stands, and the words behind it
 unfoldable pub parted : List ℕ → List Token → Option (List Token × List Token)
 parted key [] = None
@@ -117,7 +130,7 @@ ended_by key ts = parted key ts >>= λ p. elim p.1 [ [] ↦ Some p.0 | (u ∷ us
 abbrev pub up_to : {A : Type 0} → List ℕ → (List Token → Option A) → List Token → Option A
 up_to key f ts = ended_by key ts >>= f
 
--- the word lists between commas: the first, and those behind it
+-- a word in front of the first of some word lists
 abbrev pub with_first : Token → List (List Token) → List (List Token)
 with_first t [] = (t ∷ []) ∷ []
 with_first t (ts ∷ more) = (t ∷ ts) ∷ more

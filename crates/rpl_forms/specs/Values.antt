@@ -95,9 +95,13 @@ abbrev pub given_in : Bool → List ℕ → Option (List ℕ)
 given_in true word = parameter_in word
 given_in false word = None
 
+-- a number that is found so or, within a policy, a parameter
+unfoldable pub number_or_given : {N : Type 0} → (List ℕ → Option N) → Bool → List ℕ → Option (RplNumber N)
+number_or_given f within word = first_some (option_map (λ n. Fixed n) (f word)) (option_map (λ x. GivenNumber x) (given_in within word))
+
 -- a number or, within a policy, a parameter
-unfoldable pub rpl_number_in : Bool → ℕ → List ℕ → Option (RplNumber ℕ)
-rpl_number_in within most word = first_some (option_map (λ n. Fixed n) (number_in most word)) (option_map (λ x. GivenNumber x) (given_in within word))
+abbrev pub rpl_number_in : Bool → ℕ → List ℕ → Option (RplNumber ℕ)
+rpl_number_in within most word = number_or_given (number_in most) within word
 
 -- how two numbers compare
 unfoldable pub comparison_in : List ℕ → Option Comparison

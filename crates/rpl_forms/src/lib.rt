@@ -3,17 +3,28 @@
 //! `specs/`.
 #![tactic(auto)]
 
+mod actions;
 mod condition;
+mod condition_words;
 mod element;
 mod item;
 mod marks;
 mod number;
+mod paths;
+mod phrase;
+mod reading;
+mod sets;
+mod statements;
+mod tests;
+mod values;
 
 pub use condition::{MedTest, RplTest, Term};
+pub use condition_words::tests_in;
 pub use element::{Comparison, Element, LengthTest, PathElement, PathTest, PrefixElement};
 pub use item::{
     Action, Apply, Argument, CommunitySetting, Header, IfWord, OtherItem, PolicyHeader,
     PolicyStatement, Prepend, RplForm, RplItem,
 };
 pub use number::{RplNumber, RplSet};
+pub use statements::{form_in, header_in};
 pub use text_words::BlockKind;

@@ -1,0 +1,4 @@
+-- What the checker computes, and the laws that the answers cite.
+pub mod Phrases
+pub mod MarkSteps
+pub mod Last
