@@ -1,0 +1,10 @@
+pub mod Statements
+pub mod Forms
+pub mod Terms
+pub mod Facts
+pub mod Before
+pub mod Profile
+pub mod Faults
+pub mod Known
+pub mod Tells
+pub mod Walk
