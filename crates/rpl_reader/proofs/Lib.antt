@@ -1,1 +1,3 @@
+-- What the checker computes, and the laws that the answers cite.
+mod FaultExamples
 pub mod OneFirst
