@@ -1,0 +1,6 @@
+pub mod FoldLaws
+pub mod SettledLaws
+pub mod ListedLaws
+pub mod StepLaws
+pub mod WaitingLaws
+mod Examples

@@ -1,0 +1,7 @@
+pub mod Fold
+pub mod Settled
+pub mod Steps
+pub mod Guards
+pub mod Waiting
+pub mod Ranges
+pub mod Sayable
