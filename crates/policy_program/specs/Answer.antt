@@ -2,7 +2,7 @@
 use Rattle.std.specs.Prelude.{ℕ, List, [], ◌∷◌, codes, decimal}
 use Rattle.policy_outside.specs.Sink.{joined}
 use Rattle.policy_text.specs.declared.fault.Cause.{Cause}
-use Rattle.policy_program.specs.Lines.{cause_name}
+use Rattle.policy_text.specs.CauseNames.{cause_name}
 use Rattle.policy_program.specs.declared.place.Place.{Place}
 use Rattle.policy_program.specs.declared.status.Status.{Status}
 use Rattle.policy_program.specs.declared.status.Status.TheVariants.{Done, Same, Differ, Usage, Broken, NoPolicy, Outside, Inexpressible, FetchFailed, TooLong, WriteFailed, Memory, RouteRefused}

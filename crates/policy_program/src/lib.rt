@@ -29,9 +29,10 @@ mod write;
 
 pub use answer_laws::one_status_is_due;
 pub use command::{JudgeWords, Request, TranslateWords, WordsFault, read_words};
-pub use lines::{cause_name, tell_memory};
+pub use lines::tell_memory;
 pub use load::load_ios;
 pub use place::{Place, place_of};
+pub use policy_text::cause_name;
 pub use status::Status;
 pub use top_call::run;
 pub use translation::translate;

@@ -1,41 +1,13 @@
 // The one line that a refusal puts on `err`, in pieces that take no memory.
 ghost use Rattle.std.specs.Prelude.{◌≡◌, [], ◌∷◌, codes, map};
 ghost use Rattle.policy_outside.specs.Sink.{joined};
-ghost use Rattle.policy_program.specs.Lines.{cause_name};
 ghost use Rattle.policy_program.specs.Answer.{CannotRead, HasNoPolicy, IsOutside, IsTooLong, SpellsNoRoute, line_told, memory_line, unwritten_line, usage_line};
 ghost use Rattle.policy_program.specs.Ends.{ReceivedLine};
 
 use crate::place::Place;
 use itoa::Buffer;
 use policy_outside::{Sink, put_line};
-use policy_text::Cause;
-
-/// The name of a cause as it is printed: lower case, with dashes between its words.
-pub fn cause_name(cause: Cause) -> &'static str
-    ensures { result.now ≡ cause_name cause }
-{
-    match cause {
-        Cause::UnknownForm => "unknown-form",
-        Cause::DefinedTwice => "defined-twice",
-        Cause::SequenceTwice => "sequence-twice",
-        Cause::Undefined => "undefined",
-        Cause::SameKindTwice => "same-kind-twice",
-        Cause::BackwardContinue => "backward-continue",
-        Cause::DenyContinue => "deny-continue",
-        Cause::UnsettledTest => "unsettled-test",
-        Cause::ExactExpanded => "exact-expanded",
-        Cause::NotPlain => "not-plain",
-        Cause::MixedPrefixTests => "mixed-prefix-tests",
-        Cause::SamePrefixTwice => "same-prefix-twice",
-        Cause::PathTestAfterPrepend => "path-test-after-prepend",
-        Cause::SubroutineChanges => "subroutine-changes",
-        Cause::NextPolicyInSubroutine => "next-policy-in-subroutine",
-        Cause::Cycle => "cycle",
-        Cause::TooDeep => "too-deep",
-        Cause::ArgumentCount => "argument-count",
-        Cause::BadArgument => "bad-argument",
-    }
-}
+use policy_text::{Cause, cause_name};
 
 /// Puts a line, whatever the sink does with it.
 #[tactic(auto, using(crate::proofs::Told::received_line))]

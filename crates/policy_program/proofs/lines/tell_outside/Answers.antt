@@ -3,7 +3,7 @@ use Rattle.std.proofs.Common.{◌≡◌, ℕ, List, [], ◌∷◌, subst, ◌∙
 use Rattle.std.specs.Prelude.{codes, decimal}
 use Rattle.policy_outside.specs.Sink.{joined}
 use Rattle.policy_program.specs.Ends.{Sinks, ReceivedLine}
-use Rattle.policy_program.specs.Lines.{cause_name}
+use Rattle.policy_text.specs.CauseNames.{cause_name}
 use Rattle.policy_program.proofs.lines.tell_outside.Goals as goal
 
 -- the line of these parts
