@@ -1,5 +1,5 @@
 -- The last word, as the program takes it.
-use Rattle.std.proofs.Common.{◌≡◌, refl, sym, ap, ◌∙◌, ℕ, suc, ◌-◌, ◌≤◌, ◌<◌, Bool, true, false, List, [], ◌∷◌, length, get_or, take, Option, Some, None, arith}
+use Rattle.std.proofs.Common.{◌≡◌, refl, sym, ap, ◌∙◌, ℕ, suc, ◌-◌, ◌≤◌, ◌<◌, true, false, List, [], ◌∷◌, length, get_or, take, Option, Some, None, arith}
 use Rattle.std.specs.Prelude.{option_map}
 use Rattle.text_words.specs.declared.statement.Word.{Word}
 use Rattle.rpl_forms.specs.Tokens.{Token, token, tokens, is_key}

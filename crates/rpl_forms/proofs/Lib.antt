@@ -2,3 +2,5 @@
 pub mod Phrases
 pub mod MarkSteps
 pub mod Last
+pub mod Agree
+pub mod Spelled

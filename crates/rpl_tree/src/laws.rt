@@ -10,9 +10,21 @@ ghost use Rattle.rpl_forms.specs.declared.condition.Term.{Term};
 ghost use Rattle.rpl_forms.specs.declared.item.PolicyStatement.TheVariants.{Else, EndIf};
 ghost use Rattle.rpl_forms.specs.declared.item.RplForm.{RplForm};
 ghost use Rattle.rpl_forms.specs.declared.item.RplForm.TheVariants.{Statement as Says, End};
+ghost use Rattle.rpl_forms.specs.declared.item.RplItem.{RplItem};
 ghost use Rattle.rpl_tree.specs.Blocks.{outside};
 ghost use Rattle.rpl_tree.specs.Broken.{BreaksFirst, IsFirst, IsWhole, broken};
 ghost use Rattle.rpl_tree.specs.Nesting.{Steps, nested, steps_in, spelled, elseif_of, else_if_of};
+ghost use Rattle.rpl_tree.specs.Reading.{Reads};
+ghost use Rattle.rpl_tree.specs.Tree.{tree_in};
+
+/// Statements read as at most one tree, and as the one that is found.
+pub fn one_reading()
+    ensures one { (ss : List Statement) (is js : List RplItem) → Reads ss is → Reads ss js → is ≡ js }
+    // What is found is read.
+    ensures found { (ss : List Statement) (is : List RplItem) → tree_in ss ≡ Some is → Reads ss is }
+    // What is read is found.
+    ensures only { (ss : List Statement) (is : List RplItem) → Reads ss is → tree_in ss ≡ Some is }
+{}
 
 /// The fault that is found in statements is the first one.
 pub fn first_faults()

@@ -5,11 +5,14 @@
 #![tactic(auto)]
 
 mod broken;
+mod items;
 mod laws;
+mod read;
 mod standing;
 mod tree;
 
-pub use laws::{first_faults, statements_nest};
+pub use laws::{first_faults, one_reading, statements_nest};
+pub use read::read_rpl;
 pub use rpl_forms::{
     Action, Apply, Argument, BlockKind, CommunitySetting, Comparison, Element, Header, IfWord,
     LengthTest, MedTest, OtherItem, PathElement, PathTest, PolicyHeader, PolicyStatement,

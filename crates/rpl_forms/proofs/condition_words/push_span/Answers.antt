@@ -1,4 +1,4 @@
-use Rattle.std.proofs.Common.{refl, ap, ◌∙◌, ℕ, take, List}
+use Rattle.std.proofs.Common.{refl, ap, ◌∙◌, List}
 use Rattle.text_words.specs.LineCut.{end_of}
 use Rattle.text_words.specs.declared.statement.Word.{Word}
 use Rattle.rpl_forms.proofs.MarkSteps.{span_pushed}

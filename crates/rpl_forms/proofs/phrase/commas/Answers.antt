@@ -1,4 +1,4 @@
-use Rattle.std.proofs.Common.{◌≡◌, ◌∙◌, sym, None, Some, ap, refl}
+use Rattle.std.proofs.Common.{◌∙◌, sym}
 use Rattle.rpl_forms.specs.Tokens.{tokens}
 use Rattle.rpl_forms.proofs.Phrases.{comma_none, comma_found, last_none, last_found}
 use Rattle.rpl_forms.proofs.phrase.commas.Goals as goal
