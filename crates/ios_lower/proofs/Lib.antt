@@ -1,0 +1,14 @@
+pub mod Ends
+pub mod Grows
+pub mod NamedLaws
+pub mod PrefixLists
+pub mod Deletions
+pub mod Copies
+pub mod ChangeLaws
+pub mod ChangeSteps
+pub mod AtomLaws
+pub mod AtomWalks
+pub mod Runs
+pub mod ChainLaws
+pub mod Lowered
+mod Examples

@@ -1,0 +1,10 @@
+use Rattle.std.proofs.Common.{◌≡◌, ◌++◌, length}
+use Rattle.std.specs.Prelude.{map}
+use Rattle.ios_lower.specs.Atoms.{community_list_of}
+use Rattle.ios_lower.proofs.atoms.community_lists.Given as goal
+
+abbrev pub invariant-loop-rest : goal.invariant-loop-rest
+invariant-loop-rest l = l.found ++ map (community_list_of l.line.exact l.lists.items.now) l.rest ≡ map (community_list_of l.line.exact l.lists.items.now) l.line.lists
+
+abbrev pub decreases-loop-rest : goal.decreases-loop-rest
+decreases-loop-rest l = length l.rest

@@ -1,0 +1,36 @@
+-- Tests as the code finds them, one entry, list and line after the other.
+use Rattle.std.specs.Prelude.{◌≡◌, ◌++◌, ◌&&◌, ℕ, Bool, true, List, Option, Some, None}
+use Rattle.std.specs.List.{list_all}
+use Rattle.route_types.specs.Route.{RouteParts, InRange}
+use Rattle.community_sets.specs.declared.list.CommEntry.{CommEntry}
+use Rattle.aspath_text.specs.Finds.{finds_in}
+use Rattle.aspath_text.specs.Items.{IsPath}
+use Rattle.aspath_text.specs.PathMatches.{path_matches}
+use Rattle.aspath_text.specs.TokenForm.{token_form}
+use Rattle.core_nodes.specs.Atoms.{atom_holds}
+use Rattle.core_nodes.specs.declared.atom.Atom.{Atom}
+use Rattle.ios_tree.specs.declared.item.CommunityListEntry.{CommunityListEntry}
+use Rattle.ios_tree.specs.declared.item.PathListEntry.{PathListEntry}
+use Rattle.ios_tree.specs.declared.item.IosItem.{IosItem}
+use Rattle.ios_tree.specs.declared.item.MapLine.{MapLine}
+use Rattle.ios_meaning.specs.Lists.{test_of}
+use Rattle.ios_meaning.specs.Meaning.{line_holds}
+use Rattle.ios_lower.specs.Atoms.{atoms_of}
+
+-- an entry of a community list, for an exact match or not
+abbrev pub community_entry_of : Bool → CommunityListEntry → CommEntry
+community_entry_of exact e = record { permit = e.permit; test = test_of exact e.shape }
+
+-- the items of an entry's pattern match the paths in whose text it is found
+abbrev pub IsMatched : PathListEntry → Type 0
+IsMatched e = (path : List ℕ) → IsPath path → path_matches (token_form e.pattern) path ≡ finds_in e.pattern path
+
+-- what is tested holds, if something is
+abbrev pub holds_if : Option Atom → RouteParts → Bool
+holds_if (Some a) r = atom_holds a r
+holds_if None r = true
+
+-- the atoms of the lines that are not left, and what they hold for
+pub record AtomsFound (items : List IosItem) (all left : List MapLine) (found : List Atom) : Type 0 where
+  pub same : found ++ atoms_of items left ≡ atoms_of items all
+  pub holds : (r : RouteParts) → InRange r → (list_all (λ a. atom_holds a r) found && list_all (line_holds items r) left) ≡ list_all (line_holds items r) all

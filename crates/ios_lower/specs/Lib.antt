@@ -1,0 +1,14 @@
+pub mod Grows
+pub mod Named
+pub mod Lists
+pub mod Deletions
+pub mod DeletionSteps
+pub mod Changes
+pub mod ChangeSteps
+pub mod Continues
+pub mod Runs
+pub mod Atoms
+pub mod AtomSteps
+pub mod OfPolicy
+pub mod Chains
+pub mod Lowered

@@ -1,0 +1,18 @@
+//! IOS policies without `continue` as nodes of the shared graph: `lower_ios`. It stands on `ios_meaning` and
+//! `policy_core`. Its definitions are in `specs/`: `Atoms` and `Changes` say what the lines of a policy test and
+//! set, `Deletions` which communities a list takes away, `OfPolicy` what a node may say, `Continues` which
+//! policies it takes; the other files are what its walks find on the way.
+#![tactic(auto)]
+
+mod atoms;
+mod chains;
+mod changes;
+mod continues;
+mod deletion;
+mod lists;
+mod lower;
+mod named;
+mod prefix_lists;
+
+pub use continues::has_continue;
+pub use lower::lower_ios;
