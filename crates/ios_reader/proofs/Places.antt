@@ -6,6 +6,7 @@ use Rattle.std.proofs.lemmas.Bool.{cases_order, eq-eqb, ne_eqb}
 use Rattle.std.proofs.lemmas.Grind.{get_or-set_at}
 use Rattle.std.proofs.lemmas.List.{get_or-set_other, get_or-replicate, get_or_past, length-set}
 use Rattle.policy_text.specs.NameSets.{has_name}
+use Rattle.policy_text.proofs.Flags.{flag_more}
 use Rattle.ios_tree.specs.Sorts.{is_line, heads}
 use Rattle.ios_tree.specs.declared.item.IosForm.{IosForm}
 use Rattle.ios_tree.specs.declared.item.IosForm.TheVariants.{Line}
@@ -19,17 +20,6 @@ use Rattle.ios_reader.specs.Walk.{has_kind, no_kinds, kinds_with, Marks, KeepsMa
 use Rattle.ios_reader.specs.declared.place.Place.{Place}
 
 -- ---- the kinds of lines
-
--- a flag behind one more that is set
-flag_more : (xs : List Bool) (m k : ℕ) → m < length xs → get_or (set xs m true) k false ≡ ((k == m) || get_or xs k false)
-flag_more xs m k h =
-    elim (cases_order m k) [
-      | inl same ↦ rw (get_or-set_at xs m k true false (sym same) h, eq-eqb k m (sym same)) refl
-      | inr apart ↦ elim apart [
-        | inl lt ↦ rw (get_or-set_other xs m k true false (λ e. absurd (omega arith)), ne_eqb k m (λ e. absurd (omega arith))) refl
-        | inr gt ↦ rw (get_or-set_other xs m k true false (λ e. absurd (omega arith)), ne_eqb k m (λ e. absurd (omega arith))) refl
-      ]
-    ]
 
 no_kind : (kind : ℕ) → has_kind no_kinds kind ≡ false
 no_kind kind = elim (cases_order kind 15) [

@@ -15,8 +15,7 @@ use crate::lines::{continues, is_description_line, lists_named, target_of, teste
 use crate::place::{Place, has_kind};
 use crate::takes::Takes;
 use ios_tree::{IosForm, ItemSort, MapHeader, MapLine};
-use policy_text::{Cause, NameSet, Rules, first_cause, has_name};
-use route_types::Row;
+use policy_text::{Cause, NameSet, Rules, any_marked, any_missing, first_cause, has_name};
 
 // What the rules look at: the facts of the tree, what stands before the item, and its form.
 #[derive(Clone, Copy)]
@@ -94,32 +93,6 @@ fn repeats_number<'a>(place: &Place<'a>, marks: &NameSet<'a>, form: &'a IosForm)
 }
 
 // ---- a line of an entry
-
-fn any_missing<'a>(names: &NameSet<'a>, sort: u64, lists: &'a [Row<u8>]) -> bool
-    ensures { result ≡ list_any (λ q. not (has_name names.now q sort 0)) lists.now }
-{
-    let mut rest = lists;
-    while let [first, tail @ ..] = rest {
-        if !has_name(names, first.as_slice(), sort, 0) {
-            return true;
-        }
-        rest = tail;
-    }
-    false
-}
-
-fn any_marked<'a>(names: &NameSet<'a>, sort: u64, lists: &'a [Row<u8>], mark: u64) -> bool
-    ensures { result ≡ list_any (λ q. has_name names.now q sort mark) lists.now }
-{
-    let mut rest = lists;
-    while let [first, tail @ ..] = rest {
-        if has_name(names, first.as_slice(), sort, mark) {
-            return true;
-        }
-        rest = tail;
-    }
-    false
-}
 
 fn lists_missing<'a>(known: &Known<'a>, line: &'a MapLine) -> bool
     ensures { result ≡ lists_missing (known_facts known.now) line.now }

@@ -12,17 +12,17 @@ use Rattle.std.proofs.lemmas.Map.Text.{is_eq-slice_cmp}
 use denote.Ref.{Bor}
 use Rattle.policy_text.specs.NameSets.{has_name, is_key}
 
-bytes_sym : (xs ys : List ℕ) → bytes_eq xs ys ≡ bytes_eq ys xs
+pub bytes_sym : (xs ys : List ℕ) → bytes_eq xs ys ≡ bytes_eq ys xs
 bytes_sym [] [] = refl
 bytes_sym [] (y ∷ ys) = refl
 bytes_sym (x ∷ xs) [] = refl
 bytes_sym (x ∷ xs) (y ∷ ys) = rw (nat_eq_equiv.symm x y, bytes_sym xs ys) refl
 
-or_from_cond : (b x : Bool) → cond b true x ≡ (b || x)
+pub or_from_cond : (b x : Bool) → cond b true x ≡ (b || x)
 or_from_cond true x = refl
 or_from_cond false x = refl
 
-both_equal : (o p : Ordering) → is_eq (ordering_then o p) ≡ (is_eq o && is_eq p)
+pub both_equal : (o p : Ordering) → is_eq (ordering_then o p) ≡ (is_eq o && is_eq p)
 both_equal Less p = refl
 both_equal Equal p = refl
 both_equal Greater p = refl
@@ -31,7 +31,7 @@ and_none : (b : Bool) → (b && false) ≡ false
 and_none true = refl
 and_none false = refl
 
-numbers_equal : (m n : ℕ) → is_eq (nat_cmp m n) ≡ (n == m)
+pub numbers_equal : (m n : ℕ) → is_eq (nat_cmp m n) ≡ (n == m)
 numbers_equal m n =
     elim (cases_order m n) [
       | inl same ↦ rw (le-ltb m n (omega arith), eq-eqb m n same, eq-eqb n m (sym same)) refl

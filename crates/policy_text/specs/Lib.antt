@@ -5,3 +5,4 @@ pub mod Causes
 pub mod NameSets
 pub mod CauseNames
 pub mod CommonWords
+pub mod Halves

@@ -6,6 +6,7 @@
 mod causes;
 mod common_words;
 mod fault;
+mod halves;
 mod name_sets;
 mod phrase;
 mod reads;
@@ -13,7 +14,8 @@ mod reads;
 pub use causes::{Rules, first_cause};
 pub use common_words::{known_community, number_of_8_bits, number_of_16_bits, number_of_32_bits};
 pub use fault::{Cause, CheckFault, cause_name};
-pub use name_sets::{NameOf, NameSet, add_name, has_name, names_of};
+pub use halves::{HalfWord, NumberOrAll, halves_in, known_rect};
+pub use name_sets::{NameOf, NameSet, add_name, any_marked, any_missing, has_name, names_of};
 pub use phrase::{after, bounds, copied, is, is_name, parts_at};
 pub use reads::{
     AddressWord, NameWord, Number16, Number32, Number64, OriginWord, Reads, one_behind, one_word,

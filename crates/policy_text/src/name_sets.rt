@@ -1,9 +1,9 @@
 //! Sets of the names that items define or use.
-ghost use Rattle.std.specs.Prelude.{◌≡◌, List, ℕ, Bool, ◌||◌, IfOk, OnOk};
+ghost use Rattle.std.specs.Prelude.{◌≡◌, List, ℕ, Bool, ◌||◌, not, IfOk, OnOk};
 ghost use Rattle.std.specs.List.{list_any};
 ghost use Rattle.policy_text.specs.NameSets.{has_name, is_key};
 
-use route_types::Memory;
+use route_types::{Memory, Row};
 use std::alloc::Global;
 use std::collections::BTreeSet;
 
@@ -28,6 +28,34 @@ pub fn add_name<'a>(
 {
     names.insert((name, sort, number))?;
     Ok(())
+}
+
+/// Whether the set lacks one of the names, of this sort. It takes no memory.
+pub fn any_missing<'a>(names: &NameSet<'a>, sort: u64, wanted: &'a [Row<u8>]) -> bool
+    ensures { result ≡ list_any (λ q. not (has_name names.now q sort 0)) wanted.now }
+{
+    let mut rest = wanted;
+    while let [first, tail @ ..] = rest {
+        if !has_name(names, first.as_slice(), sort, 0) {
+            return true;
+        }
+        rest = tail;
+    }
+    false
+}
+
+/// Whether the set has one of the names, of this sort and with this number. It takes no memory.
+pub fn any_marked<'a>(names: &NameSet<'a>, sort: u64, wanted: &'a [Row<u8>], number: u64) -> bool
+    ensures { result ≡ list_any (λ q. has_name names.now q sort number) wanted.now }
+{
+    let mut rest = wanted;
+    while let [first, tail @ ..] = rest {
+        if has_name(names, first.as_slice(), sort, number) {
+            return true;
+        }
+        rest = tail;
+    }
+    false
 }
 
 /// The names that an item gives: those that it defines, or those that it uses.

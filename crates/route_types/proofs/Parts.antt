@@ -1,8 +1,8 @@
 -- The parts of a word at a byte, by the place of the first such byte.
 use Rattle.std.proofs.Common.{◌≡◌, refl, sym, ap, ◌∙◌, ℕ, suc, ◌+◌, ◌-◌, ◌<◌, ◌≤◌, Bool, true, false, cond, not, ltb, List, [], ◌∷◌, length, take, drop, Option, Some, None, arith, inl, inr, ◌⊎◌}
 use Rattle.std.specs.Prelude.{◌==◌, option_map}
-use Rattle.std.specs.List.{position, prefix_len}
-use Rattle.std.proofs.lemmas.Bool.{lt-ltb, le-ltb, cases_lt}
+use Rattle.std.specs.List.{list_any, position, prefix_len}
+use Rattle.std.proofs.lemmas.Bool.{lt-ltb, le-ltb, cases_lt, or_parts}
 use Rattle.std.proofs.lemmas.List.{take_all, length-drop}
 use Rattle.route_types.specs.Words.{parts_at, ◌>>=◌}
 
@@ -58,3 +58,14 @@ pub parts_cut : (b place : ℕ) (word : List ℕ) → Some place ≡ position (�
 parts_cut b place word e =
     ap (λ (x : List ℕ). Some (take place word, x)) (take_all (length word - (place + 1)) (drop (place + 1) word) (omega (arith, length-drop (place + 1) word)))
     ∙ ap (λ (o : Option ℕ). option_map (λ i. (take i word, drop (i + 1) word)) o) e ∙ sym (parts_at_position b word)
+
+no_part_here : (t : Bool) (b c : ℕ) (cs : List ℕ) → t ≡ false → parts_at b cs ≡ None
+    → ◌≡◌ {A = Option (List ℕ × List ℕ)} (elim t [ true ↦ Some ([], cs) | false ↦ parts_at b cs >>= λ parts. Some (c ∷ parts.0, parts.1) ]) None
+no_part_here true b c cs e more = absurd cc
+no_part_here false b c cs e more = ap (λ (o : Option (List ℕ × List ℕ)). o >>= λ parts. Some (c ∷ parts.0, parts.1)) more
+
+-- a byte that stands nowhere in a word cuts no parts
+pub no_parts : (b : ℕ) (word : List ℕ) → list_any (λ c. c == b) word ≡ false → parts_at b word ≡ None
+unfolding parts_at
+no_parts b [] h = refl
+no_parts b (c ∷ cs) h = let p = or_parts (c == b) (list_any (λ x. x == b) cs) h in no_part_here (c == b) b c cs p.0 (no_parts b cs p.1)

@@ -28,6 +28,6 @@ pub use laws::route_texts;
 pub use print::{push_address, push_number, push_prefix};
 pub use route::{NextHop, Origin, Outcome, Route, new_route};
 pub use route_print::print_route;
-pub use route_text::{read_origin, read_route};
+pub use route_text::{read_next_hop, read_origin, read_route};
 pub use text_words::{Memory, Row};
 pub use words::{read_address, read_community, read_number, read_prefix};

@@ -25,8 +25,9 @@ fn prefix_of(words: &[Word]) -> Option<Prefix>
     read_prefix(word)
 }
 
+/// The next hop that a word spells: `self`, or an address. `None` for another word. It takes no memory.
 #[tactic(auto, unfolding(crate::specs::RouteLines::next_hop_in))]
-fn next_hop_in(word: &[u8]) -> Option<NextHop>
+pub fn read_next_hop(word: &[u8]) -> Option<NextHop>
     ensures { result ≡ next_hop_in word.now }
 {
     if word == b"self".as_slice() {
@@ -40,7 +41,7 @@ fn next_hop_of(words: &[Word]) -> Option<NextHop>
     ensures { result ≡ next_hop_of_line (texts words.now) }
 {
     let word = word_behind(words, b"next-hop")?;
-    next_hop_in(word)
+    read_next_hop(word)
 }
 
 /// The origin that a word spells: `igp`, `egp` or `incomplete` (RFC 4271, 5.1.1). `None` where it spells

@@ -216,7 +216,8 @@ fn span_of(start: u64, words: &[Word]) -> Span
     }
 }
 
-pub(crate) fn end_of_words(end: u64, words: &[Word]) -> u64
+/// The place behind the last of the words, or `end` where there is none. It takes no memory.
+pub fn end_of_words(end: u64, words: &[Word]) -> u64
     ensures { result ≡ end_of end words.now }
 {
     let mut last = end;

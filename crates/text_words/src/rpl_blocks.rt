@@ -40,7 +40,8 @@ pub(crate) struct Cutting {
     pub(crate) words: Row<Word>,
 }
 
-fn is_word(key: &[u8], word: &Word) -> bool
+/// Whether a word is this keyword of RPL: a word in quotes is none. It takes no memory.
+pub fn is_word(key: &[u8], word: &Word) -> bool
     ensures { result ≡ is_word key.now word.now }
 {
     !word.quoted && key == word.text.as_slice()
@@ -59,8 +60,9 @@ fn is_one_of(keys: &[&[u8]], word: &Word) -> bool
     false
 }
 
-/// The block that a line with this first word opens.
-fn opened_by(word: &Word) -> Option<BlockKind>
+/// The block of an RPL text that a line with this first word opens; `None` where it opens none. It takes
+/// no memory.
+pub fn opened_by(word: &Word) -> Option<BlockKind>
     ensures { result ≡ opened_by word.now }
 {
     if is_word(b"prefix-set", word) {

@@ -8,6 +8,7 @@ use Rattle.route_types.specs.Community.{RectParts}
 use Rattle.route_types.specs.Words.{◌>>=◌, when, is_digit, number_in, parts_at, community_in, IsNumber}
 use Rattle.route_types.specs.declared.community.Community.{Community}
 use Rattle.route_types.proofs.Numbers.{bind_found, some_is, when_true, decimal_no_such_byte}
+use Rattle.route_types.proofs.Parts.{no_parts}
 use Rattle.route_types.proofs.Spelled.{parts_at_behind, parts_at_found, ap2}
 use Rattle.aspath_text.specs.IosGrammar.{SpellsPattern}
 use Rattle.aspath_text.specs.IosRead.{ios_pattern_in}
@@ -64,17 +65,6 @@ community_word_found w c e =
     first_found (community_in w) (first_some (one_of ios_communities w) (whole_community w)) c (IsCommunityWord w c) (λ h. inl (community_agrees.found w c h))
     (λ g. first_found (one_of ios_communities w) (whole_community w) c (IsCommunityWord w c) (λ h. inr (inl ((one_of_agrees ios_communities refl).found w c h))) (λ h. inr (inr (whole_found w c h))) g)
     e
-
-no_part_here : (t : Bool) (b c : ℕ) (cs : List ℕ) → t ≡ false → parts_at b cs ≡ None
-    → ◌≡◌ {A = Option (List ℕ × List ℕ)} (elim t [ true ↦ Some ([], cs) | false ↦ parts_at b cs >>= λ parts. Some (c ∷ parts.0, parts.1) ]) None
-no_part_here true b c cs e more = absurd cc
-no_part_here false b c cs e more = ap (λ (o : Option (List ℕ × List ℕ)). o >>= λ parts. Some (c ∷ parts.0, parts.1)) more
-
--- a byte that stands nowhere in a word cuts no parts
-no_parts : (b : ℕ) (word : List ℕ) → list_any (λ c. c == b) word ≡ false → parts_at b word ≡ None
-unfolding parts_at
-no_parts b [] h = refl
-no_parts b (c ∷ cs) h = let p = or_parts (c == b) (list_any (λ x. x == b) cs) h in no_part_here (c == b) b c cs p.0 (no_parts b cs p.1)
 
 -- a number is no word of its own
 number_unknown : (n : ℕ) → n < 2 ^ 64 → one_of ios_communities (decimal n) ≡ None
