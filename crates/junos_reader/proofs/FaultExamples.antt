@@ -8,8 +8,8 @@ use Rattle.policy_text.specs.Causes.{first_cause, first_fault_from}
 use Rattle.route_types.specs.declared.address.Family.TheVariants.{V4}
 use Rattle.route_types.specs.Community.{RectParts}
 use Rattle.prefix_sets.specs.Range.{RangeParts}
-use Rattle.junos_calls.specs.Calls.{leads}
-use Rattle.junos_calls.specs.Depth.{is_at, is_too_deep}
+use Rattle.policy_calls.specs.Calls.{leads}
+use Rattle.policy_calls.specs.Depth.{is_at, is_too_deep}
 use Rattle.junos_tree.specs.Terms.{term_before}
 use Rattle.junos_tree.specs.declared.item.ItemSort.TheVariants.{Inner}
 use Rattle.junos_tree.specs.declared.item.Condition.{Condition}

@@ -6,28 +6,10 @@ use Rattle.std.specs.declared.cmp.Ordering.{Ordering}
 use Rattle.std.specs.declared.cmp.Ordering.TheVariants.{Less, Equal, Greater}
 use Rattle.std.specs.BTreeSet.{BTreeSet, UpdatesBy}
 use Rattle.std.proofs.lemmas.Bool.{cases_order, lt-ltb, le-ltb, eq-eqb, ne_eqb}
+use Rattle.policy_text.proofs.NameSets.{or_from_cond, both_equal, numbers_equal}
 use Rattle.route_types.specs.Address.{PrefixParts, width}
 use Rattle.junos_reader.specs.Forms.{same_prefix}
 use Rattle.junos_reader.specs.Known.{has_prefix}
-
-or_from_cond : (b x : Bool) → cond b true x ≡ (b || x)
-or_from_cond true x = refl
-or_from_cond false x = refl
-
-both_equal : (o p : Ordering) → is_eq (ordering_then o p) ≡ (is_eq o && is_eq p)
-both_equal Less p = refl
-both_equal Equal p = refl
-both_equal Greater p = refl
-
-numbers_equal : (m n : ℕ) → is_eq (nat_cmp m n) ≡ (n == m)
-numbers_equal m n =
-    elim (cases_order m n) [
-      | inl same ↦ rw (le-ltb m n (omega arith), eq-eqb m n same, eq-eqb n m (sym same)) refl
-      | inr apart ↦ elim apart [
-        | inl lt ↦ rw (lt-ltb m n lt, ne_eqb n m (λ e. absurd (omega arith))) refl
-        | inr gt ↦ rw (le-ltb m n (omega arith), ne_eqb m n (λ e. absurd (omega arith)), ne_eqb n m (λ e. absurd (omega arith))) refl
-      ]
-    ]
 
 -- the order of two prefixes, by their numbers
 abbrev prefix_order : ℕ → ℕ → ℕ → ℕ × ℕ × ℕ → Ordering

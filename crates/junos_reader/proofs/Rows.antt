@@ -3,9 +3,9 @@ use Rattle.std.proofs.Common.{◌≡◌, ap, ◌∙◌, ℕ, List, [], ◌∷◌
 use Rattle.std.specs.Prelude.{map}
 use Rattle.std.proofs.lemmas.List.{map-append, append_assoc}
 use denote.Ref.{Bor}
-use Rattle.junos_calls.specs.Calls.{Link}
-use Rattle.junos_calls.specs.Callees.{nows, link_of, links_of}
-use Rattle.junos_calls.specs.declared.call.Call.{Call}
+use Rattle.policy_calls.specs.Calls.{Link}
+use Rattle.policy_calls.specs.Callees.{nows, link_of, links_of}
+use Rattle.policy_calls.specs.declared.call.Call.{Call}
 use Rattle.junos_reader.specs.Statements.{Statement}
 use Rattle.junos_reader.specs.Known.{plain, plain_statements}
 use Rattle.junos_reader.specs.declared.statements.PolicyStatement.{PolicyStatement}

@@ -6,6 +6,7 @@ use Rattle.std.proofs.lemmas.Bool.{cases_order, eq-eqb, ne_eqb}
 use Rattle.std.proofs.lemmas.Grind.{get_or-set_at}
 use Rattle.std.proofs.lemmas.List.{get_or-set_other, get_or-replicate, get_or_past, length-set}
 use Rattle.route_types.specs.Address.{PrefixParts}
+use Rattle.policy_text.proofs.Flags.{flag_more}
 use Rattle.junos_tree.specs.declared.item.JunosForm.{JunosForm}
 use Rattle.junos_reader.specs.Forms.{kind_of, is_kind, filter_of, is_prefix}
 use Rattle.junos_reader.specs.Before.{Earlier, earlier}
@@ -23,17 +24,6 @@ empty_is t kinds filters = record {
   tells = λ j. record { kinds = λ k. (ap (λ (ks : List Bool). get_or ks k false) kinds ∙ no_kind k) j; filters = λ p. filters p j };
   len = ap (λ (ks : List Bool). length ks) kinds;
 }
-
--- a flag behind one more that is set
-flag_more : (xs : List Bool) (m k : ℕ) → m < length xs → get_or (set xs m true) k false ≡ ((k == m) || get_or xs k false)
-flag_more xs m k h =
-    elim (cases_order m k) [
-      | inl same ↦ rw (get_or-set_at xs m k true false (sym same) h, eq-eqb k m (sym same)) refl
-      | inr apart ↦ elim apart [
-        | inl lt ↦ rw (get_or-set_other xs m k true false (λ e. absurd (omega arith)), ne_eqb k m (λ e. absurd (omega arith))) refl
-        | inr gt ↦ rw (get_or-set_other xs m k true false (λ e. absurd (omega arith)), ne_eqb k m (λ e. absurd (omega arith))) refl
-      ]
-    ]
 
 kinds_more : (xs : List Bool) (kind : Option ℕ) (k : ℕ) → length xs ≡ 8 → IfSome kind (λ m. m < 8) → get_or (kinds_with xs kind) k false ≡ (is_kind k kind || get_or xs k false)
 kinds_more xs None k len within = refl

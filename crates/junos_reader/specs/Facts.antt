@@ -1,8 +1,8 @@
 -- What the rules of the profile look at beside an item: facts of the whole tree and of the chain, as tests.
 use Rattle.std.specs.Prelude.{ℕ, Bool, true, false, ◌&&◌, List, [], ◌∷◌, map, bytes_eq}
 use Rattle.std.specs.List.{list_any}
-use Rattle.junos_calls.specs.Calls.{Link, is_reached, is_called, leads_to_some, turns_back}
-use Rattle.junos_calls.specs.Depth.{is_too_deep}
+use Rattle.policy_calls.specs.Calls.{Link, is_reached, is_called, leads_to_some, turns_back}
+use Rattle.policy_calls.specs.Depth.{is_too_deep}
 use Rattle.junos_tree.specs.Sorts.{defines}
 use Rattle.junos_tree.specs.declared.item.ItemSort.{ItemSort}
 use Rattle.junos_tree.specs.declared.item.ItemSort.TheVariants.{Policy as PolicySort}

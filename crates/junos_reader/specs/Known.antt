@@ -6,7 +6,7 @@ use Rattle.std.specs.BTreeSet.{BTreeSet}
 use denote.Ref.{Bor}
 use Rattle.route_types.specs.Address.{PrefixParts, width}
 use Rattle.policy_text.specs.NameSets.{has_name}
-use Rattle.junos_calls.specs.Callees.{has_pair}
+use Rattle.policy_calls.specs.Callees.{has_pair}
 use Rattle.junos_tree.specs.Terms.{term_before}
 use Rattle.junos_tree.specs.declared.item.ItemSort.{ItemSort}
 use Rattle.junos_tree.specs.declared.item.ItemSort.TheVariants.{Policy as PolicySort}

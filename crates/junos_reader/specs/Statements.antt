@@ -1,7 +1,7 @@
 -- The conditions, actions and term headers of a tree, each with the policy that it stands in, and what they name.
 use Rattle.std.specs.Prelude.{ℕ, Bool, true, false, ◌&&◌, List, [], ◌∷◌, Option, Some, None, bytes_eq}
 use Rattle.std.specs.List.{list_any}
-use Rattle.junos_calls.specs.Calls.{Link}
+use Rattle.policy_calls.specs.Calls.{Link}
 use Rattle.junos_tree.specs.Sorts.{same_sort, is_inner}
 use Rattle.junos_tree.specs.declared.item.ItemSort.{ItemSort}
 use Rattle.junos_tree.specs.declared.item.ItemSort.TheVariants.{PrefixList as ListSort, Community as CommunitySort, AsPath as PathSort, Policy as PolicySort, Inner}

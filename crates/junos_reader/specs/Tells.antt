@@ -2,9 +2,9 @@
 use Rattle.std.specs.Prelude.{◌≡◌, ℕ, ◌&&◌, List, bytes_eq}
 use Rattle.std.specs.List.{list_any}
 use Rattle.policy_text.specs.NameSets.{has_name}
-use Rattle.junos_calls.specs.Calls.{Link, is_reached, leads_to_some, turns_back}
-use Rattle.junos_calls.specs.Depth.{is_too_deep}
-use Rattle.junos_calls.specs.Callees.{has_pair}
+use Rattle.policy_calls.specs.Calls.{Link, is_reached, leads_to_some, turns_back}
+use Rattle.policy_calls.specs.Depth.{is_too_deep}
+use Rattle.policy_calls.specs.Callees.{has_pair}
 use Rattle.junos_tree.specs.Sorts.{defines}
 use Rattle.junos_tree.specs.declared.item.ItemSort.{ItemSort}
 use Rattle.junos_tree.specs.declared.item.JunosItem.{JunosItem}

@@ -3,7 +3,7 @@ ghost use Rattle.std.specs.Prelude.{◌≡◌, not, option_map};
 ghost use Rattle.std.specs.List.{list_any};
 ghost use Rattle.policy_text.specs.Causes.{first_cause};
 ghost use Rattle.policy_text.specs.NameSets.{has_name};
-ghost use Rattle.junos_calls.specs.Callees.{has_pair};
+ghost use Rattle.policy_calls.specs.Callees.{has_pair};
 ghost use Rattle.junos_reader.specs.Forms.{sort_code};
 ghost use Rattle.junos_reader.specs.Known.{known_facts, told, told_term};
 ghost use Rattle.junos_reader.specs.Profile.{passes, policy_at, is_reached, term_at, is_second_definition, is_undefined, repeats_kind, sets_many, exactly_one, tests_one_way, mixes_tests, repeats_prefix, asks_path, is_behind_prepend, tests_after_prepend, changes_in_subroutine, leaves_subroutine, calls_back, calls_too_deep, has_cause, is_fault};
@@ -15,9 +15,9 @@ use crate::forms::{
 use crate::known::{Known, is_reached};
 use crate::sets::has_prefix;
 use crate::state::{State, TermState};
-use junos_calls::{PairSet, has_pair};
 use junos_tree::{ItemSort, JunosForm};
-use policy_text::{Cause, NameSet, Rules, first_cause, has_name};
+use policy_calls::{PairSet, has_pair};
+use policy_text::{Cause, NameSet, Rules, any_missing, first_cause, has_name};
 use route_types::Row;
 
 // What the rules look at: the facts of the tree, what stands before the item, and its form.
@@ -76,19 +76,6 @@ fn is_second_definition<'a>(state: &State<'a>, form: &'a JunosForm) -> bool
         None => false,
         Some(name) => has_name(&state.defined, name, sort_code(sort_of_form(form)), 0),
     }
-}
-
-fn any_missing<'a>(names: &NameSet<'a>, sort: u64, lists: &'a [Row<u8>]) -> bool
-    ensures { result ≡ list_any (λ q. not (has_name names.now q sort 0)) lists.now }
-{
-    let mut rest = lists;
-    while let [first, tail @ ..] = rest {
-        if !has_name(names, first.as_slice(), sort, 0) {
-            return true;
-        }
-        rest = tail;
-    }
-    false
 }
 
 fn is_undefined<'a>(known: &Known<'a>, form: &'a JunosForm) -> bool

@@ -1,6 +1,6 @@
 //! Which terms put numbers before the path and go on.
 ghost use Rattle.std.specs.Prelude.{◌≡◌, ℕ, ◌||◌, List, [], ◌∷◌, ◌++◌, IfOk, OnOk, option_map, None};
-ghost use Rattle.junos_calls.specs.Callees.{nows};
+ghost use Rattle.policy_calls.specs.Callees.{nows};
 ghost use Rattle.junos_reader.specs.Terms.{onto_passing, passing};
 ghost use Rattle.junos_reader.specs.Facts.{forms_of};
 ghost use Rattle.junos_reader.specs.Known.{flags_of, behind_header, behind_action, flags_behind, goes_on_by, goes_on_in, passing_from};

@@ -2,7 +2,7 @@
 ghost use Rattle.std.specs.Prelude.{◌≡◌, ℕ, ◌||◌, List, ◌∷◌, IfOk, OnOk, bytes_eq, option_map};
 ghost use Rattle.std.specs.List.{list_any};
 ghost use Rattle.policy_text.specs.NameSets.{has_name};
-ghost use Rattle.junos_calls.specs.Callees.{nows, links_of};
+ghost use Rattle.policy_calls.specs.Callees.{nows, links_of};
 ghost use Rattle.junos_tree.specs.Sorts.{defines};
 ghost use Rattle.junos_tree.specs.declared.item.ItemSort.{ItemSort as SpecSort};
 ghost use Rattle.junos_reader.specs.Forms.{sort_code, is_not_plain};
@@ -15,8 +15,8 @@ use crate::flags::{TermChoice, going_on};
 use crate::forms::{has_wild, name_of_form, sort_code, sort_of_form};
 use crate::sets::{lent, names_behind, set_of};
 use crate::statements::{PolicyStatement, calls, statements, testers, used};
-use junos_calls::{Call, PairSet, called, leading_to, reached, too_deep, turning_back};
 use junos_tree::{ItemSort, JunosForm, JunosItem};
+use policy_calls::{Call, PairSet, called, leading_to, reached, too_deep, turning_back};
 use policy_text::{NameSet, add_name, has_name};
 use route_types::{Memory, Row};
 use std::alloc::Global;

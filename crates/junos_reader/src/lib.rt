@@ -1,5 +1,5 @@
 //! Checks that a chain of policies of the tree of a Junos text lies in the profile. It stands on `junos_tree`, whose public
-//! items it gives on, on `junos_calls`, and on what lies below these. Its definitions are in `specs/`: the statements and
+//! items it gives on, on `policy_calls`, and on what lies below these. Its definitions are in `specs/`: the statements and
 //! what they name, the facts of the tree, what stands before an item, the causes, each a rule of its own, and the first
 //! fault. Where the first fault is, and when there is none, is the law in `laws`.
 #![tactic(auto)]

@@ -3,7 +3,7 @@ ghost use Rattle.std.specs.Prelude.{◌≡◌, ℕ, ◌||◌, List, IfOk, OnOk, 
 ghost use Rattle.std.specs.List.{list_any};
 ghost use Rattle.route_types.specs.Address.{PrefixParts, width};
 ghost use Rattle.policy_text.specs.NameSets.{has_name};
-ghost use Rattle.junos_calls.specs.Callees.{nows};
+ghost use Rattle.policy_calls.specs.Callees.{nows};
 ghost use Rattle.junos_reader.specs.Terms.{stands_behind};
 ghost use Rattle.junos_reader.specs.Forms.{same_prefix};
 ghost use Rattle.junos_reader.specs.Known.{has_prefix};

@@ -2,16 +2,16 @@
 ghost use Rattle.std.specs.Prelude.{◌≡◌, ℕ, ◌||◌, ◌&&◌, ◌==◌, List, ◌∷◌, ◌++◌, None, IfOk, OnOk, bytes_eq, option_map, map};
 ghost use Rattle.std.specs.List.{list_any};
 ghost use Rattle.policy_text.specs.NameSets.{has_name};
-ghost use Rattle.junos_calls.specs.Callees.{nows, links_of};
-ghost use Rattle.junos_calls.specs.Calls.{Link};
+ghost use Rattle.policy_calls.specs.Callees.{nows, links_of};
+ghost use Rattle.policy_calls.specs.Calls.{Link};
 ghost use Rattle.junos_reader.specs.Statements.{Statement, policy_behind, onto_statements, statements_from, statements_of, links_to, links_in, testers_in, names_it};
 ghost use Rattle.junos_reader.specs.Forms.{sort_code};
 ghost use Rattle.junos_reader.specs.Known.{plain_statements};
 ghost use Rattle.junos_tree.specs.declared.item.ItemSort.{ItemSort as SpecSort};
 
 use crate::forms::{called_by, is_inner, is_path_test, named_by, policy_in, sort_code};
-use junos_calls::Call;
 use junos_tree::{JunosForm, JunosItem};
+use policy_calls::Call;
 use policy_text::{NameSet, add_name, has_name};
 use route_types::{Memory, Row};
 use std::alloc::Global;

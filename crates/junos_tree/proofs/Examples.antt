@@ -12,7 +12,9 @@ use Rattle.policy_text.specs.Phrases.{after, each}
 use Rattle.junos_tree.specs.Forms.{of_keys, values_in, type_in, range_in, named_in, filter_in, attribute_in, condition_in, flow_in, setting_in, change_in, action_in, list_in, policy_in, term_in, community_in, path_in, clause_in, form_in}
 use Rattle.junos_tree.specs.Terms.{parts, own_forms, terms_of}
 use Rattle.junos_tree.specs.Tree.{known_form, opened_at, said_at, items_from, junos_tree}
-use Rattle.junos_tree.specs.Words.{halves_in, member_in, list_member_in, up_to_in, lengths_in, next_hop_in, between_spaces, prepended_in}
+use Rattle.route_types.specs.RouteLines.{next_hop_in}
+use Rattle.policy_text.specs.Halves.{halves_in}
+use Rattle.junos_tree.specs.Words.{member_in, list_member_in, up_to_in, lengths_in, between_spaces, prepended_in}
 use Rattle.junos_tree.specs.declared.item.Action.{Action}
 use Rattle.junos_tree.specs.declared.item.Action.TheVariants.{Flow as DoFlow, Metric as SetMetric, Community as ChangeCommunities, Prepend, NextHop as SetNextHop, Origin as SetOrigin}
 use Rattle.junos_tree.specs.declared.item.CommunityVerb.TheVariants.{Set, Delete}

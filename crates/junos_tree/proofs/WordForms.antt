@@ -11,27 +11,30 @@ use Rattle.route_types.specs.declared.address.Address.{Address}
 use Rattle.route_types.specs.declared.route.NextHop.{NextHop}
 use Rattle.route_types.specs.declared.route.NextHop.TheVariants.{At, Own}
 use Rattle.route_types.proofs.Numbers.{bind_found, some_is, when_true, decimal_no_such_byte}
+use Rattle.route_types.specs.RouteLines.{next_hop_in}
+use Rattle.route_types.proofs.RouteWords.{next_hops}
 use Rattle.route_types.proofs.Spelled.{parts_at_behind, parts_at_found}
 use Rattle.aspath_text.specs.JunosRead.{junos_pattern_in}
 use Rattle.aspath_text.proofs.JunosRead.{junos_pattern_found, junos_pattern_only}
 use Rattle.aspath_text.proofs.JunosWords.{parts_none}
 use Rattle.policy_text.specs.Names.{first_some}
 use Rattle.policy_text.specs.Phrases.{Agrees, IsOneOf, one_of}
+use Rattle.policy_text.specs.Halves.{number_or_all, halves_in}
 use Rattle.policy_text.proofs.Phrases.{when_found, same_bytes, first_found, map_found}
 use Rattle.policy_text.proofs.Agree.{one_of_agrees}
 use Rattle.policy_text.proofs.Values.{number_agrees, address_agrees, prefix_agrees}
-use Rattle.junos_tree.specs.Words.{ends, nexts, verbs, filter_types, types, known_members, IsHalf, AreHalves, IsMember, IsListMember, IsLength, IsUpTo, AreLengths, IsNextHop, IsPattern, half_in, halves_in, member_in, list_member_in, length_in, up_to_in, lengths_in, next_hop_in, pattern_in}
+use Rattle.junos_tree.specs.Words.{ends, nexts, verbs, filter_types, types, known_members, IsHalf, AreHalves, IsMember, IsListMember, IsLength, IsUpTo, AreLengths, IsNextHop, IsPattern, member_in, list_member_in, length_in, up_to_in, lengths_in, pattern_in}
 
 -- ---- members of communities
 
-half_found : (w : List ℕ) (h : ℕ × ℕ) → half_in w ≡ Some h → IsHalf w h.0 h.1
+half_found : (w : List ℕ) (h : ℕ × ℕ) → number_or_all w ≡ Some h → IsHalf w h.0 h.1
 half_found w h e =
     first_found (number_in 65535 w >>= λ n. Some (n, n)) (when (bytes_eq w (codes "*")) (0, 65535)) h (IsHalf w h.0 h.1)
     (λ g. let n = bind_found (number_in 65535 w) (λ m. Some (m, m)) h g in subst (λ (x : ℕ × ℕ). IsHalf w x.0 x.1) (some_is (n.0, n.0) h n.2) (inl ((number_agrees 65535 (lit< tt)).found w n.0 n.1, refl)))
     (λ g. let k = when_found (bytes_eq w (codes "*")) (0, 65535) h g in subst (λ (x : ℕ × ℕ). IsHalf w x.0 x.1) k.1 (inr (same_bytes w (codes "*") k.0, refl, refl)))
     e
 
-half_spelled : (w : List ℕ) (least most : ℕ) → IsHalf w least most → half_in w ≡ Some (least, most)
+half_spelled : (w : List ℕ) (least most : ℕ) → IsHalf w least most → number_or_all w ≡ Some (least, most)
 unfolding number_in
 half_spelled w least most (inl (h, e)) = rw e (ap (λ (o : Option ℕ). first_some (o >>= λ n. Some (n, n)) (when (bytes_eq w (codes "*")) (0, 65535))) ((number_agrees 65535 (lit< tt)).only w least h))
 half_spelled w least most (inr (e, f, g)) = rw (e, f, g) refl
@@ -41,13 +44,13 @@ no_colon : (w : List ℕ) (least most : ℕ) → IsHalf w least most → list_an
 no_colon w least most (inl (h, e)) = ap (λ (x : List ℕ). list_any (λ c. c == 58) x) h.spelled ∙ decimal_no_such_byte 58 least refl (omega (arith, h.within))
 no_colon w least most (inr (e, f, g)) = ap (λ (x : List ℕ). list_any (λ c. c == 58) x) e
 
-halves_agree : Agrees halves_in AreHalves
+halves_agree : Agrees (halves_in number_or_all) AreHalves
 unfolding halves_in
 halves_agree = record {
   found = λ w r e.
       let parts = bind_found (parts_at 58 w) _ r e in
-      let high = bind_found (half_in parts.0.0) _ r parts.2 in
-      let low = bind_found (half_in parts.0.1) _ r high.2 in
+      let high = bind_found (number_or_all parts.0.0) _ r parts.2 in
+      let low = bind_found (number_or_all parts.0.1) _ r high.2 in
       subst (AreHalves w) (some_is (record { high_least = high.0.0; high_most = high.0.1; low_least = low.0.0; low_most = low.0.1 }) r low.2) (record {
         high = parts.0.0;
         low = parts.0.1;
@@ -57,7 +60,7 @@ halves_agree = record {
       });
   only = λ w r h.
       let parted = parts_at_behind 58 h.high h.low (no_colon h.high r.high_least r.high_most h.high_half) in
-      ap (λ (x : List ℕ). halves_in x) h.spelled ∙ rw (parted, half_spelled h.high r.high_least r.high_most h.high_half, half_spelled h.low r.low_least r.low_most h.low_half) refl;
+      ap (λ (x : List ℕ). halves_in number_or_all x) h.spelled ∙ rw (parted, half_spelled h.high r.high_least r.high_most h.high_half, half_spelled h.low r.low_least r.low_most h.low_half) refl;
 }
 
 known_agree : Agrees (one_of known_members) (IsOneOf known_members)
@@ -65,7 +68,7 @@ known_agree = one_of_agrees known_members refl
 
 member_found : (w : List ℕ) (r : RectParts) → member_in w ≡ Some r → IsMember w r
 unfolding member_in
-member_found w r e = first_found (halves_in w) (one_of known_members w) r (IsMember w r) (λ h. inl (halves_agree.found w r h)) (λ h. inr (known_agree.found w r h)) e
+member_found w r e = first_found (halves_in number_or_all w) (one_of known_members w) r (IsMember w r) (λ h. inl (halves_agree.found w r h)) (λ h. inr (known_agree.found w r h)) e
 
 member_only : (w : List ℕ) (r : RectParts) → IsMember w r → member_in w ≡ Some r
 unfolding member_in halves_in parts_at
@@ -192,29 +195,8 @@ types_agree n = one_of_agrees (types n) refl
 
 -- ---- next hops and patterns
 
-hop_here : (t : Bool) (w : List ℕ) (h : NextHop) → bytes_eq w (codes "self") ≡ t → ◌≡◌ {A = Option NextHop} (elim t [ true ↦ Some Own | false ↦ option_map (λ a. At a) (address_in w) ]) (Some h) → IsNextHop w h
-hop_here true w h t e = subst (IsNextHop w) (some_is Own h e) (same_bytes w (codes "self") t)
-hop_here false w h t e = let a = map_found (address_in w) (λ b. At b) h e in subst (IsNextHop w) a.2 (address_agrees.found w a.0 a.1)
-
-hop_found : (w : List ℕ) (h : NextHop) → next_hop_in w ≡ Some h → IsNextHop w h
-unfolding next_hop_in
-hop_found w h e = hop_here (bytes_eq w (codes "self")) w h refl e
-
--- an address is another word than `self`
-not_self : (t : Bool) (w : List ℕ) (a : Address) → bytes_eq w (codes "self") ≡ t → IsAddress w a → ◌≡◌ {A = Option NextHop} (elim t [ true ↦ Some Own | false ↦ option_map (λ b. At b) (address_in w) ]) (Some (At a))
-unfolding address_in parts_at
-not_self true w a t h =
-    let none : address_in (codes "self") ≡ Some a = ap (λ (x : List ℕ). address_in x) (sym (same_bytes w (codes "self") t)) ∙ address_agrees.only w a h in
-    absurd (let k : ◌≡◌ {A = Option Address} None (Some a) = none in cc)
-not_self false w a t h = ap (λ (o : Option Address). option_map (λ b. At b) o) (address_agrees.only w a h)
-
-hop_only : (w : List ℕ) (h : NextHop) → IsNextHop w h → next_hop_in w ≡ Some h
-unfolding next_hop_in
-hop_only w Own e = rw e refl
-hop_only w (At a) h = not_self (bytes_eq w (codes "self")) w a refl h
-
 pub hop_agrees : Agrees next_hop_in IsNextHop
-hop_agrees = record { found = hop_found; only = hop_only }
+hop_agrees = record { found = next_hops.found; only = next_hops.again }
 
 pub pattern_agrees : Agrees pattern_in IsPattern
 unfolding pattern_in

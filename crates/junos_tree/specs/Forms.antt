@@ -9,7 +9,8 @@ use Rattle.text_words.specs.declared.statement.Ender.{Ender}
 use Rattle.text_words.specs.declared.statement.Ender.TheVariants.{Semi, Open}
 use Rattle.policy_text.specs.Names.{first_some}
 use Rattle.policy_text.specs.Phrases.{behind, only, value_at, first_of, some_each, one_of, name_in}
-use Rattle.junos_tree.specs.Words.{ends, nexts, verbs, filter_types, types, member_in, list_member_in, up_to_in, lengths_in, next_hop_in, prepended_in, pattern_in}
+use Rattle.route_types.specs.RouteLines.{next_hop_in}
+use Rattle.junos_tree.specs.Words.{ends, nexts, verbs, filter_types, types, member_in, list_member_in, up_to_in, lengths_in, prepended_in, pattern_in}
 use Rattle.junos_tree.specs.declared.item.Condition.{Condition}
 use Rattle.junos_tree.specs.declared.item.Condition.TheVariants.{Protocol, Community, AsPath, NextHop, Policy, PrefixList, RouteFilter, ListFilter, Metric, LocalPreference, Origin}
 use Rattle.junos_tree.specs.declared.item.Action.{Action}

@@ -12,6 +12,7 @@ use Rattle.aspath_text.specs.IosGrammar.{joined_by}
 use Rattle.aspath_text.specs.JunosGrammar.{SpellsJunos}
 use Rattle.aspath_text.specs.JunosRead.{junos_pattern_in}
 use Rattle.aspath_text.specs.declared.items.TokenPattern.{TokenPattern}
+use Rattle.policy_text.specs.Halves.{known_rects, number_or_all, halves_in}
 use Rattle.policy_text.specs.Names.{first_some}
 use Rattle.policy_text.specs.Phrases.{AreSome, IsOneOf, one_of, some_each}
 use Rattle.junos_tree.specs.declared.item.CommunityVerb.{CommunityVerb}
@@ -37,13 +38,9 @@ verbs = (codes "set", Set) ∷ (codes "=", Set) ∷ (codes "add", Add) ∷ (code
 abbrev pub filter_types : List (List ℕ × Bool)
 filter_types = (codes "exact", false) ∷ (codes "orlonger", true) ∷ []
 
--- the one community of these halves
-abbrev pub one_member : ℕ → ℕ → RectParts
-one_member high low = record { high_least = high; high_most = high; low_least = low; low_most = low }
-
 -- the communities that have a word of their own (RFC 1997)
 abbrev pub known_members : List (List ℕ × RectParts)
-known_members = (codes "no-export", one_member 65535 65281) ∷ (codes "no-advertise", one_member 65535 65282) ∷ (codes "no-export-subconfed", one_member 65535 65283) ∷ []
+known_members = known_rects (codes "no-export-subconfed")
 
 -- the lengths that a type of one word gives behind a prefix of length n
 abbrev pub types : ℕ → List (List ℕ × (ℕ × ℕ))
@@ -109,18 +106,8 @@ IsPattern word (pattern, text) = SpellsJunos word pattern × (text ≡ word)
 
 -- ---- the functions that find them
 
-abbrev pub half_in : List ℕ → Option (ℕ × ℕ)
-half_in word = first_some (number_in 65535 word >>= λ n. Some (n, n)) (when (bytes_eq word (codes "*")) (0, 65535))
-
-unfoldable pub halves_in : List ℕ → Option RectParts
-halves_in word = do
-  parts ← parts_at 58 word
-  high ← half_in parts.0
-  low ← half_in parts.1
-  Some (record { high_least = high.0; high_most = high.1; low_least = low.0; low_most = low.1 })
-
 unfoldable pub member_in : List ℕ → Option RectParts
-member_in word = first_some (halves_in word) (one_of known_members word)
+member_in word = first_some (halves_in number_or_all word) (one_of known_members word)
 
 unfoldable pub list_member_in : List ℕ → Option PrefixParts
 list_member_in word = first_some (prefix_in word) (address_in word >>= λ a. Some (prefix_of a 32))
@@ -140,9 +127,6 @@ lengths_in length word = do
   least ← length_in parts.0
   most ← length_in parts.1
   when (nat_le length least && nat_le least most) (least, most)
-
-unfoldable pub next_hop_in : List ℕ → Option NextHop
-next_hop_in word = elim (bytes_eq word (codes "self")) [ true ↦ Some Own | false ↦ option_map (λ a. At a) (address_in word) ]
 
 -- what stands between two spaces
 unfoldable pub between_spaces : List ℕ → List (List ℕ)

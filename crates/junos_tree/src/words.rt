@@ -2,17 +2,18 @@
 //! patterns.
 
 ghost use Rattle.std.specs.Prelude.{◌≡◌, ◌≤◌, ◌<◌, ◌-◌, ◌^◌, ℕ, true, false, List, [], ◌∷◌, Some, None, IfOk, IfSome, MatchOption, length};
+ghost use Rattle.route_types.specs.RouteLines.{next_hop_in};
 ghost use Rattle.route_types.specs.Words.{number_in, parts_at};
 ghost use Rattle.policy_text.specs.Phrases.{one_of, each_onto, some_each};
-ghost use Rattle.junos_tree.specs.Words.{ends, nexts, verbs, filter_types, types, known_members, half_in, halves_in, member_in, list_member_in, length_in, up_to_in, lengths_in, next_hop_in, between_spaces, prepended_in, pattern_in};
+ghost use Rattle.junos_tree.specs.Words.{ends, nexts, verbs, filter_types, types, member_in, list_member_in, length_in, up_to_in, lengths_in, between_spaces, prepended_in, pattern_in};
 
 use crate::item::{CommunityVerb, Flow};
 use aspath_text::{PatternFault, TokenPattern, read_junos_pattern};
 use policy_text::{
-    Reads, copied, number_of_8_bits, number_of_16_bits, number_of_32_bits, parts_at, read_address,
-    read_prefix,
+    NumberOrAll, Reads, copied, halves_in, known_rect, number_of_8_bits, number_of_32_bits,
+    parts_at, read_address, read_prefix,
 };
-use route_types::{Memory, NextHop, Prefix, Rect, Row};
+use route_types::{Memory, NextHop, Prefix, Rect, Row, read_next_hop};
 use std::alloc::Global;
 
 // ---- words of a table
@@ -131,53 +132,14 @@ pub(crate) fn type_in(length: u8, word: &[u8]) -> Option<(u8, u8)>
 
 // ---- members
 
-// The numbers that half of a member stands for: one, or all of them.
-fn half_in(word: &[u8]) -> Option<(u16, u16)>
-    ensures value { result ≡ half_in word.now }
-    ensures within { IfSome result (λ h. h.0 ≤ h.1) }
-{
-    if let Some(number) = number_of_16_bits(word) {
-        return Some((number, number));
-    }
-    if word == b"*".as_slice() {
-        return Some((0, 65535));
-    }
-    None
-}
-
-#[tactic(auto, unfolding(crate::specs::Words::halves_in))]
-fn halves_in(word: &[u8]) -> Option<Rect>
-    ensures { result ≡ halves_in word.now }
-{
-    let (high, low) = parts_at(word, b':')?;
-    let (high_least, high_most) = half_in(high)?;
-    let (low_least, low_most) = half_in(low)?;
-    Some(Rect::new(high_least, high_most, low_least, low_most))
-}
-
-fn known_member(word: &[u8]) -> Option<Rect>
-    ensures { result ≡ one_of known_members word.now }
-{
-    if word == b"no-export".as_slice() {
-        return Some(Rect::new(65535, 65535, 65281, 65281));
-    }
-    if word == b"no-advertise".as_slice() {
-        return Some(Rect::new(65535, 65535, 65282, 65282));
-    }
-    if word == b"no-export-subconfed".as_slice() {
-        return Some(Rect::new(65535, 65535, 65283, 65283));
-    }
-    None
-}
-
 #[tactic(auto, unfolding(crate::specs::Words::member_in))]
 fn member_in(word: &[u8]) -> Option<Rect>
     ensures { result ≡ member_in word.now }
 {
-    if let Some(rect) = halves_in(word) {
+    if let Some(rect) = halves_in::<NumberOrAll>(word) {
         return Some(rect);
     }
-    known_member(word)
+    known_rect(word, b"no-export-subconfed")
 }
 
 /// A member of a community: two halves, each a number or `*`, or a word of its own.
@@ -260,22 +222,11 @@ pub(crate) fn lengths_in(length: u8, word: &[u8]) -> Option<(u8, u8)>
 /// `self`, or an address.
 pub(crate) struct NextHopWord;
 
-#[tactic(auto, unfolding(crate::specs::Words::next_hop_in))]
-fn next_hop_in(word: &[u8]) -> Option<NextHop>
-    ensures { result ≡ next_hop_in word.now }
-{
-    if word == b"self".as_slice() {
-        return Some(NextHop::Own);
-    }
-    let address = read_address(word)?;
-    Some(NextHop::At(address))
-}
-
 impl Reads<NextHop> for NextHopWord {
     ghost find = { next_hop_in };
 
     fn read(_alloc: Global, word: &[u8]) -> Result<Option<NextHop>, Memory> {
-        Ok(next_hop_in(word))
+        Ok(read_next_hop(word))
     }
 }
 

@@ -1,6 +1,6 @@
 use Rattle.std.proofs.Common.{◌≡◌, length}
 use Rattle.std.specs.List.{list_any}
-use Rattle.junos_calls.specs.Callees.{has_pair}
+use Rattle.policy_calls.specs.Callees.{has_pair}
 use Rattle.junos_reader.proofs.faults.any_turns.Given as goal
 
 abbrev pub invariant-loop-rest : goal.invariant-loop-rest

@@ -1,6 +1,6 @@
 use Rattle.std.proofs.Common.{◌≡◌, ◌++◌, [], None, length}
 use Rattle.std.specs.Prelude.{option_map}
-use Rattle.junos_calls.specs.Callees.{nows}
+use Rattle.policy_calls.specs.Callees.{nows}
 use Rattle.junos_reader.specs.Facts.{forms_of}
 use Rattle.junos_reader.specs.Known.{flags_of, passing_from}
 use Rattle.junos_reader.proofs.flags.walk.Given as goal

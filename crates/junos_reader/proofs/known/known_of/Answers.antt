@@ -1,5 +1,5 @@
 use Rattle.std.proofs.Common.{sym, ap, ◌∙◌, List}
-use Rattle.junos_calls.specs.Callees.{nows, links_of}
+use Rattle.policy_calls.specs.Callees.{nows, links_of}
 use Rattle.junos_reader.specs.Known.{plain_statements}
 use Rattle.junos_reader.proofs.Facts.{tells_facts}
 use Rattle.junos_reader.proofs.known.known_of.Goals as goal

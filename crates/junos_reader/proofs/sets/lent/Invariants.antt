@@ -1,5 +1,5 @@
 use Rattle.std.proofs.Common.{◌≡◌, ◌++◌, length}
-use Rattle.junos_calls.specs.Callees.{nows}
+use Rattle.policy_calls.specs.Callees.{nows}
 use Rattle.junos_reader.proofs.sets.lent.Given as goal
 
 abbrev pub invariant-loop-rest : goal.invariant-loop-rest

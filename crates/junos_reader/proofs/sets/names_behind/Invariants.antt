@@ -1,5 +1,5 @@
 use Rattle.std.proofs.Common.{◌≡◌, ℕ, List, length}
-use Rattle.junos_calls.specs.Callees.{nows}
+use Rattle.policy_calls.specs.Callees.{nows}
 use Rattle.junos_reader.specs.Terms.{stands_behind}
 use Rattle.junos_reader.proofs.sets.names_behind.Given as goal
 

@@ -2,7 +2,7 @@ use Rattle.std.proofs.Common.{◌≡◌, ◌||◌, ℕ, List, length}
 use Rattle.std.specs.Prelude.{bytes_eq}
 use Rattle.std.specs.List.{list_any}
 use Rattle.policy_text.specs.NameSets.{has_name}
-use Rattle.junos_calls.specs.Callees.{nows}
+use Rattle.policy_calls.specs.Callees.{nows}
 use Rattle.junos_reader.proofs.sets.set_of.Given as goal
 
 abbrev pub invariant-loop-rest : goal.invariant-loop-rest

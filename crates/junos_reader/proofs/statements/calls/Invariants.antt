@@ -1,5 +1,5 @@
 use Rattle.std.proofs.Common.{◌≡◌, ◌++◌, length}
-use Rattle.junos_calls.specs.Callees.{links_of}
+use Rattle.policy_calls.specs.Callees.{links_of}
 use Rattle.junos_reader.specs.Statements.{links_in}
 use Rattle.junos_reader.specs.Known.{plain_statements}
 use Rattle.junos_reader.proofs.statements.calls.Given as goal

@@ -1,6 +1,6 @@
 use Rattle.std.proofs.Common.{◌≡◌, ◌++◌, List, length}
-use Rattle.junos_calls.specs.Callees.{links_of}
-use Rattle.junos_calls.specs.Calls.{Link}
+use Rattle.policy_calls.specs.Callees.{links_of}
+use Rattle.policy_calls.specs.Calls.{Link}
 use Rattle.junos_reader.specs.Statements.{links_to}
 use Rattle.junos_reader.proofs.statements.push_calls.Given as goal
 

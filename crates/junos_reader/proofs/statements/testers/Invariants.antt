@@ -1,5 +1,5 @@
 use Rattle.std.proofs.Common.{◌≡◌, ◌++◌, length}
-use Rattle.junos_calls.specs.Callees.{nows}
+use Rattle.policy_calls.specs.Callees.{nows}
 use Rattle.junos_reader.specs.Statements.{testers_in}
 use Rattle.junos_reader.specs.Known.{plain_statements}
 use Rattle.junos_reader.proofs.statements.testers.Given as goal

@@ -1,4 +1,0 @@
-pub mod Calls
-pub mod Depth
-pub mod Callees
-pub mod Search
