@@ -2,19 +2,19 @@
 use Rattle.std.specs.Prelude.{ℕ, List, [], ◌∷◌, ◌++◌, Option, Some, None}
 use Rattle.std.specs.List.{flat_map}
 use Rattle.route_types.specs.Community.{RectParts}
-use Rattle.rpl_forms.specs.declared.number.RplNumber.{RplNumber}
-use Rattle.rpl_forms.specs.declared.number.RplNumber.TheVariants.{Fixed as FixedNumber, Parameter as GivenNumber}
-use Rattle.rpl_forms.specs.declared.number.RplSet.{RplSet}
-use Rattle.rpl_forms.specs.declared.number.RplSet.TheVariants.{Named, Parameter as GivenSet, Listed}
-use Rattle.rpl_forms.specs.declared.element.PrefixElement.{PrefixElement}
-use Rattle.rpl_forms.specs.declared.element.PathElement.{PathElement}
-use Rattle.rpl_forms.specs.declared.element.PathElement.TheVariants.{Pattern, Test as PathTestElement}
-use Rattle.rpl_forms.specs.declared.element.PathTest.{PathTest}
-use Rattle.rpl_forms.specs.declared.element.PathTest.TheVariants.{Length, PassesThrough, OriginatesFrom, NeighborIs}
-use Rattle.rpl_forms.specs.declared.condition.Term.{Term}
-use Rattle.rpl_forms.specs.declared.condition.Term.TheVariants.{Test}
-use Rattle.rpl_forms.specs.declared.condition.RplTest.{RplTest}
-use Rattle.rpl_forms.specs.declared.condition.RplTest.TheVariants.{Destination, NextHop, PathIn, Path, MatchesAny, MatchesEvery, Med}
+use Rattle.rpl_words.specs.declared.number.RplNumber.{RplNumber}
+use Rattle.rpl_words.specs.declared.number.RplNumber.TheVariants.{Fixed as FixedNumber, Parameter as GivenNumber}
+use Rattle.rpl_words.specs.declared.number.RplSet.{RplSet}
+use Rattle.rpl_words.specs.declared.number.RplSet.TheVariants.{Named, Parameter as GivenSet, Listed}
+use Rattle.rpl_words.specs.declared.element.PrefixElement.{PrefixElement}
+use Rattle.rpl_words.specs.declared.element.PathElement.{PathElement}
+use Rattle.rpl_words.specs.declared.element.PathElement.TheVariants.{Pattern, Test as PathTestElement}
+use Rattle.rpl_words.specs.declared.element.PathTest.{PathTest}
+use Rattle.rpl_words.specs.declared.element.PathTest.TheVariants.{Length, PassesThrough, OriginatesFrom, NeighborIs}
+use Rattle.rpl_words.specs.declared.condition.Term.{Term}
+use Rattle.rpl_words.specs.declared.condition.Term.TheVariants.{Test}
+use Rattle.rpl_words.specs.declared.condition.RplTest.{RplTest}
+use Rattle.rpl_words.specs.declared.condition.RplTest.TheVariants.{Destination, NextHop, PathIn, Path, MatchesAny, MatchesEvery, Med}
 use Rattle.rpl_forms.specs.declared.item.Action.{Action}
 use Rattle.rpl_forms.specs.declared.item.Action.TheVariants.{SetMed, SetLocalPreference, SetWeight, SetCommunity, DeleteCommunity, Prepend}
 use Rattle.rpl_forms.specs.declared.item.PolicyStatement.{PolicyStatement}

@@ -10,7 +10,7 @@ use Rattle.rpl_forms.specs.declared.item.RplForm.{RplForm}
 use Rattle.rpl_forms.specs.declared.item.RplForm.TheVariants.{Statement}
 use Rattle.rpl_forms.specs.declared.item.RplItem.{RplItem}
 use Rattle.step_search.specs.Tables.{places_in}
-use Rattle.junos_calls.specs.Calls.{Link}
+use Rattle.policy_calls.specs.Calls.{Link}
 use Rattle.rpl_calls.specs.Policies.{Spoken, spoken_from, name_under, parameters_in, place_of}
 
 -- a call: the name of the policy that it stands in, what is applied, for each argument its place among the parameters

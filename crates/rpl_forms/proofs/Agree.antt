@@ -1,8 +1,4 @@
 -- What is found is what is spelled.
-pub mod Tokens
-pub mod Values
-pub mod Elements
-pub mod Tests
 pub mod Actions
 pub mod Statements
 pub mod Marks

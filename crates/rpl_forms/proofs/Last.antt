@@ -2,7 +2,7 @@
 use Rattle.std.proofs.Common.{◌≡◌, refl, sym, ap, ◌∙◌, ℕ, suc, ◌-◌, ◌≤◌, ◌<◌, true, false, List, [], ◌∷◌, length, get_or, take, Option, Some, None, arith}
 use Rattle.std.specs.Prelude.{option_map}
 use Rattle.text_words.specs.declared.statement.Word.{Word}
-use Rattle.rpl_forms.specs.Tokens.{Token, token, tokens, is_key}
+use Rattle.rpl_words.specs.Tokens.{Token, token, tokens, is_key}
 use Rattle.rpl_forms.specs.Statements.{before_last}
 
 -- no word is the last

@@ -1,6 +1,6 @@
 -- What the checker computes, and the laws that the answers cite.
-pub mod Phrases
 pub mod MarkSteps
 pub mod Last
 pub mod Agree
 pub mod Spelled
+mod Examples

@@ -4,12 +4,12 @@ use Rattle.std.specs.Prelude.{option_map}
 use Rattle.std.proofs.lemmas.List.{take_all, take-map, drop-map, length-drop}
 use Rattle.route_types.specs.Words.{◌>>=◌}
 use Rattle.text_words.specs.declared.statement.Word.{Word}
-use Rattle.rpl_forms.specs.Tokens.{Token, token, tokens}
+use Rattle.rpl_words.specs.Tokens.{Token, token, tokens}
 use Rattle.rpl_forms.specs.Terms.{Taken, mark_at, marked_at, marks_behind, taken, terms_from, read_on, read_words, after_mark, is_sign, spans_behind}
 use Rattle.text_words.specs.LineCut.{end_of}
 use Rattle.text_words.specs.declared.statement.Span.{Span}
-use Rattle.rpl_forms.specs.Conditions.{words_behind}
-use Rattle.rpl_forms.specs.declared.condition.Term.{Term}
+use Rattle.rpl_words.specs.Conditions.{words_behind}
+use Rattle.rpl_words.specs.declared.condition.Term.{Term}
 use Rattle.rpl_forms.specs.declared.marks.Mark.{Mark}
 use Rattle.rpl_forms.specs.declared.marks.Level.{Level}
 use Rattle.rpl_forms.specs.declared.marks.Standing.{Standing}

@@ -1,7 +1,7 @@
 -- What is found in statements is what is spelled, for headers and for statements within blocks.
 use Rattle.std.proofs.Common.{◌≡◌, List, Some}
 use Rattle.text_words.specs.declared.rpl_blocks.BlockKind.{BlockKind}
-use Rattle.rpl_forms.specs.Tokens.{Token}
+use Rattle.rpl_words.specs.Tokens.{Token}
 use Rattle.rpl_forms.specs.Statements.{SpellWithin, form_in}
 use Rattle.rpl_forms.specs.declared.item.RplForm.{RplForm}
 use Rattle.rpl_forms.proofs.Agree.Found.{condition_agrees}

@@ -15,17 +15,17 @@ use Rattle.route_types.specs.RouteText.{SpellsOrigin}
 use Rattle.route_types.specs.RouteLines.{origin_in}
 use Rattle.policy_text.specs.Names.{first_some}
 use Rattle.policy_text.specs.Phrases.{one_of}
-use Rattle.rpl_forms.specs.Tokens.{Token, plain, token, tokens, is_key, IsPlain, One, Behind, First, UpTo, Called, plain_in, only, behind, first_of, up_to, before, called_in}
-use Rattle.rpl_forms.specs.Values.{IsHeaderName, IsInnerName, IsParameter, IsNumberWord, header_name_in, inner_name_in, parameter_in, rpl_number_in}
-use Rattle.rpl_forms.specs.Elements.{SpellPrefixElement, SpellRect, SpellPathElement, SpellSet, prefix_element_in, rect_element_in, path_element_in, set_in}
-use Rattle.rpl_forms.specs.Conditions.{SpellTerms}
+use Rattle.rpl_words.specs.Tokens.{Token, plain, token, tokens, is_key, IsPlain, One, Behind, First, UpTo, Called, plain_in, only, behind, first_of, up_to, before, called_in}
+use Rattle.rpl_words.specs.Values.{IsHeaderName, IsInnerName, IsParameter, IsNumberWord, header_name_in, inner_name_in, parameter_in, rpl_number_in}
+use Rattle.rpl_words.specs.Elements.{SpellPrefixElement, SpellRect, SpellPathElement, SpellSet, prefix_element_in, rect_element_in, path_element_in, set_in}
+use Rattle.rpl_words.specs.Conditions.{SpellTerms}
 use Rattle.rpl_forms.specs.Terms.{condition_in, spans_behind}
-use Rattle.rpl_forms.specs.declared.condition.Term.{Term}
-use Rattle.rpl_forms.specs.declared.element.Element.{Element}
-use Rattle.rpl_forms.specs.declared.element.Element.TheVariants.{Prefix as PrefixOf, Community as CommunityOf, Path as PathOf}
-use Rattle.rpl_forms.specs.declared.number.RplNumber.{RplNumber}
-use Rattle.rpl_forms.specs.declared.number.RplNumber.TheVariants.{Fixed, Parameter as GivenNumber}
-use Rattle.rpl_forms.specs.declared.number.RplSet.{RplSet}
+use Rattle.rpl_words.specs.declared.condition.Term.{Term}
+use Rattle.rpl_words.specs.declared.element.Element.{Element}
+use Rattle.rpl_words.specs.declared.element.Element.TheVariants.{Prefix as PrefixOf, Community as CommunityOf, Path as PathOf}
+use Rattle.rpl_words.specs.declared.number.RplNumber.{RplNumber}
+use Rattle.rpl_words.specs.declared.number.RplNumber.TheVariants.{Fixed, Parameter as GivenNumber}
+use Rattle.rpl_words.specs.declared.number.RplSet.{RplSet}
 use Rattle.rpl_forms.specs.declared.item.Header.{Header}
 use Rattle.rpl_forms.specs.declared.item.Header.TheVariants.{PrefixSet, CommunitySet, PathSet, Policy}
 use Rattle.rpl_forms.specs.declared.item.Action.{Action}

@@ -6,11 +6,11 @@ use Rattle.text_words.specs.LineCut.{end_of}
 use Rattle.text_words.specs.declared.statement.Span.{Span}
 use Rattle.text_words.specs.declared.statement.Word.{Word}
 use Rattle.policy_text.specs.Phrases.{one_of}
-use Rattle.rpl_forms.specs.Tokens.{Token, token, tokens, plain_in}
-use Rattle.rpl_forms.specs.Conditions.{test_in, words_behind}
-use Rattle.rpl_forms.specs.declared.condition.RplTest.{RplTest}
-use Rattle.rpl_forms.specs.declared.condition.Term.{Term}
-use Rattle.rpl_forms.specs.declared.condition.Term.TheVariants.{Test, Group, Not, And, Or}
+use Rattle.rpl_words.specs.Tokens.{Token, token, tokens, plain_in}
+use Rattle.rpl_words.specs.Conditions.{test_in, words_behind}
+use Rattle.rpl_words.specs.declared.condition.RplTest.{RplTest}
+use Rattle.rpl_words.specs.declared.condition.Term.{Term}
+use Rattle.rpl_words.specs.declared.condition.Term.TheVariants.{Test, Group, Not, And, Or}
 use Rattle.rpl_forms.specs.declared.marks.Mark.{Mark}
 use Rattle.rpl_forms.specs.declared.marks.Mark.TheVariants.{Asks, Opens, Closes, Negates, Joins, Divides}
 use Rattle.rpl_forms.specs.declared.marks.Level.{Level}

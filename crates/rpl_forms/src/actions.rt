@@ -2,19 +2,18 @@
 
 ghost use Rattle.std.specs.Prelude.{◌≡◌, ◌∷◌, ◌-◌, ◌^◌, [], IfOk, codes, option_map, true};
 ghost use Rattle.route_types.specs.RouteLines.{origin_in};
-ghost use Rattle.rpl_forms.specs.Tokens.{token, tokens, plain_in, only, behind};
-ghost use Rattle.rpl_forms.specs.Values.{number_or_given};
-ghost use Rattle.rpl_forms.specs.Elements.{rect_element_in, set_in};
+ghost use Rattle.rpl_words.specs.Tokens.{token, tokens, plain_in, only, behind};
+ghost use Rattle.rpl_words.specs.Values.{number_or_given};
+ghost use Rattle.rpl_words.specs.Elements.{rect_element_in, set_in};
 ghost use Rattle.rpl_forms.specs.Statements.{is_some, number_in_policy, next_hop_in, count_in, count_or_once, prepend_in, before_last, added_in, setting_in, set_number_in, set_value_in, set_action_in, action_in};
 ghost use Rattle.rpl_forms.specs.declared.item.Action.TheVariants.{SetMed, SetLocalPreference, SetWeight, SetCommunity, DeleteCommunity, Prepend as PrependPath};
 
 use crate::item::{Action, CommunitySetting, Prepend};
-use crate::number::{RplNumber, RplSet};
-use crate::phrase::{after, is_key, one_plain};
-use crate::sets::{RectElement, set_in};
-use crate::values::{Count63, plain_number};
 use policy_text::{Number16, Number32, OriginWord, Reads, Word, read_address};
 use route_types::{Memory, NextHop, Origin, Rect};
+use rpl_words::{
+    Count63, RectElement, RplNumber, RplSet, after, is_key, one_plain, plain_number, set_in,
+};
 use std::alloc::Global;
 
 // ---- values
@@ -208,7 +207,7 @@ fn set_behind(alloc: Global, words: &[Word]) -> Result<Option<Action>, Memory>
 
 // ---- `delete` and `prepend`
 
-#[tactic(auto, unfolding(crate::specs::Tokens::after))]
+#[tactic(auto, unfolding(rpl_words::specs::Tokens::after))]
 fn deletion(alloc: Global, words: &[Word]) -> Result<Option<Action>, Memory>
     ensures { IfOk result (λ o. o ≡ option_map (λ s. DeleteCommunity s) (behind (codes "delete" ∷ codes "community" ∷ codes "in" ∷ []) (set_in rect_element_in) (tokens words.now))) }
 {
@@ -274,7 +273,7 @@ fn prepend(alloc: Global, words: &[Word]) -> Result<Option<(RplNumber<u32>, RplN
     }
 }
 
-#[tactic(auto, unfolding(crate::specs::Tokens::after))]
+#[tactic(auto, unfolding(rpl_words::specs::Tokens::after))]
 fn prepending(alloc: Global, words: &[Word]) -> Result<Option<Action>, Memory>
     ensures { IfOk result (λ o. o ≡ option_map (λ p. PrependPath (record { number = p.0; count = p.1 })) (behind (codes "prepend" ∷ codes "as-path" ∷ []) prepend_in (tokens words.now))) }
 {

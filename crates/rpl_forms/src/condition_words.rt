@@ -1,20 +1,18 @@
 //! The words of a condition become its terms.
 
 ghost use Rattle.std.specs.Prelude.{◌≡◌, ◌<◌, ◌≤◌, ◌∷◌, ◌++◌, ◌+◌, ◌-◌, ◌^◌, suc, List, Some, false, IfOk, IfSome, length, option_map, drop, take};
-ghost use Rattle.text_words.specs.LineCut.{end_of};
-ghost use Rattle.rpl_forms.specs.Tokens.{Token, token, tokens, before};
-ghost use Rattle.rpl_forms.specs.Conditions.{words_behind};
+ghost use Rattle.rpl_words.specs.Tokens.{Token, token, tokens, before};
+ghost use Rattle.rpl_words.specs.Conditions.{words_behind};
 ghost use Rattle.rpl_forms.specs.Terms.{sign_in, is_sign, marked_at, nots_of, read_words, read_left, condition_in, spans_behind};
 ghost use Rattle.rpl_forms.specs.Statements.{tests_in};
 
-use crate::condition::Term;
 use crate::marks::Mark;
-use crate::phrase::{is_key, place_of};
 use crate::reading::Reading;
-use crate::tests::{test_in, words_behind};
 use policy_text::{Span, Word};
 use route_types::{Memory, Row};
+use rpl_words::{Term, is_key, place_of, test_in, words_behind};
 use std::alloc::Global;
+use text_words::end_of_words;
 
 // The mark that a word is by itself.
 #[tactic(auto, unfolding(crate::specs::Terms::sign_in))]
@@ -141,19 +139,6 @@ pub(crate) fn condition_in(alloc: Global, words: &[Word]) -> Result<Option<Row<T
 
 // ---- where the tests stand
 
-// The end of the last word.
-fn end_of(end: u64, words: &[Word]) -> u64
-    ensures { result ≡ end_of end words.now }
-{
-    let mut last = end;
-    let mut rest = words;
-    while let [first, tail @ ..] = rest {
-        last = first.span.end;
-        rest = tail;
-    }
-    last
-}
-
 // The first words, so many or all of them.
 fn words_to(words: &[Word], count: usize) -> &[Word]
     ensures { result.now ≡ take count words.now }
@@ -182,7 +167,7 @@ fn push_span<'a>(
     ensures kept { IfOk result (λ r. found.new ++ spans_behind 0 r.now ≡ found.old ++ spans_behind 0 (first.now ∷ tail.now)) }
     ensures shorter { IfOk result (λ r. length r.now ≤ length tail.now) }
 {
-    let end = end_of(first.span.end, words_to(tail, count));
+    let end = end_of_words(first.span.end, words_to(tail, count));
     let start = first.span.start;
     found.push(Span { start, end })?;
     Ok(words_from(tail, count))

@@ -1,7 +1,5 @@
-use crate::condition::Term;
-use crate::element::Element;
-use crate::number::{RplNumber, RplSet};
 use route_types::{NextHop, Origin, Rect, Row};
+use rpl_words::{Element, RplNumber, RplSet, Term};
 use text_words::{BlockKind, Span};
 
 /// A statement of a set or of a policy, and where it stands.

@@ -1,4 +1,4 @@
-use crate::condition::RplTest;
+use rpl_words::RplTest;
 
 /// What a condition is made of: tests, and words that join and group them.
 #[derive(Debug, Drop)]

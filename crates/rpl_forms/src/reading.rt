@@ -3,13 +3,13 @@
 
 ghost use Rattle.std.specs.Prelude.{◌≡◌, ◌<◌, ◌≤◌, ◌+◌, ◌-◌, ◌^◌, ◌++◌, ◌∷◌, [], Option, Some, None, List, true, false, IfOk, OnOk, length, option_map};
 ghost use Rattle.rpl_forms.specs.Terms.{nothing_waits, repeated_not, completed, divided, taken, nots_of, read_on, after_mark};
-ghost use Rattle.rpl_forms.specs.declared.condition.Term.TheVariants.{Group, Test};
+ghost use Rattle.rpl_words.specs.declared.condition.Term.TheVariants.{Group, Test};
 ghost use Rattle.rpl_forms.specs.declared.marks.Standing.TheVariants.{Wants, Has};
 ghost use Rattle.rpl_forms.specs.declared.marks.Mark.TheVariants.{Closes};
 
-use crate::condition::Term;
 use crate::marks::{Level, Mark, Standing};
 use route_types::{Memory, Row};
+use rpl_words::Term;
 use std::alloc::Global;
 use text_words::Stack;
 

@@ -3,8 +3,8 @@
 ghost use Rattle.std.specs.Prelude.{◌≡◌, ◌∷◌, [], IfOk, codes, option_map};
 ghost use Rattle.route_types.specs.Words.{address_in};
 ghost use Rattle.policy_text.specs.Phrases.{one_of};
-ghost use Rattle.rpl_forms.specs.Tokens.{token, tokens, plain_in, only, behind, called_in};
-ghost use Rattle.rpl_forms.specs.Values.{header_name_in, parameter_in, inner_name_in, number_or_given};
+ghost use Rattle.rpl_words.specs.Tokens.{token, tokens, plain_in, only, behind, called_in};
+ghost use Rattle.rpl_words.specs.Values.{header_name_in, parameter_in, inner_name_in, number_or_given};
 ghost use Rattle.rpl_forms.specs.Statements.{single_words, set_header_in, policy_header_in, header_in, branch_in, next_hop_in, argument_in, apply_in, single_word_in, conditional_in, statement_in, form_in};
 ghost use Rattle.rpl_forms.specs.Statements.{action_in};
 ghost use Rattle.rpl_forms.specs.declared.item.Header.TheVariants.{PrefixSet, CommunitySet, PathSet};
@@ -12,16 +12,14 @@ ghost use Rattle.rpl_forms.specs.declared.item.PolicyStatement.TheVariants.{Act}
 ghost use Rattle.text_words.specs.declared.rpl_blocks.BlockKind.TheVariants.{PrefixSet as PrefixBlock, CommunitySet as CommunityBlock, PathSet as PathBlock, Policy as PolicyBlock};
 
 use crate::actions::action_in;
-use crate::condition::Term;
 use crate::condition_words::condition_in;
-use crate::element::{Element, PathElement, PrefixElement};
 use crate::item::{Apply, Argument, Header, PolicyHeader, PolicyStatement, RplForm};
-use crate::paths::OwnPath;
-use crate::phrase::{ReadsWords, after, called, ended_by, one_plain};
-use crate::sets::{OwnPrefix, RectElement};
-use crate::values::{HeaderName, InnerName, ParameterName};
 use policy_text::{Reads, Word};
 use route_types::{Memory, Rect, Row};
+use rpl_words::{
+    Element, HeaderName, InnerName, OwnPath, OwnPrefix, ParameterName, PathElement, PrefixElement,
+    ReadsWords, RectElement, Term, after, called, ended_by, one_plain,
+};
 use std::alloc::Global;
 use text_words::BlockKind;
 
@@ -66,7 +64,7 @@ fn path_set_header(alloc: Global, words: &[Word]) -> Result<Option<Header>, Memo
 }
 
 // The name of a policy and its parameters.
-#[tactic(auto, unfolding(crate::specs::Statements::policy_header_in, crate::specs::Tokens::after))]
+#[tactic(auto, unfolding(crate::specs::Statements::policy_header_in, rpl_words::specs::Tokens::after))]
 fn policy_header(alloc: Global, words: &[Word]) -> Result<Option<Header>, Memory>
     ensures { IfOk result (λ o. o ≡ policy_header_in (tokens words.now)) }
 {

@@ -4,11 +4,11 @@ use Rattle.std.specs.Prelude.{Some, None, codes, map}
 use Rattle.policy_text.specs.declared.fault.Cause.{Cause}
 use Rattle.policy_text.specs.declared.fault.Cause.TheVariants.{UnknownForm, DefinedTwice, Undefined, NotPlain, Cycle, TooDeep, ArgumentCount}
 use Rattle.route_types.specs.Words.{number_in}
-use Rattle.rpl_forms.specs.declared.number.RplNumber.TheVariants.{Parameter as GivenNumber}
-use Rattle.rpl_forms.specs.declared.number.RplSet.TheVariants.{Named, Listed}
-use Rattle.rpl_forms.specs.declared.condition.Term.{Term}
-use Rattle.rpl_forms.specs.declared.condition.Term.TheVariants.{Test, Group}
-use Rattle.rpl_forms.specs.declared.condition.RplTest.TheVariants.{Destination, IsEmpty}
+use Rattle.rpl_words.specs.declared.number.RplNumber.TheVariants.{Parameter as GivenNumber}
+use Rattle.rpl_words.specs.declared.number.RplSet.TheVariants.{Named, Listed}
+use Rattle.rpl_words.specs.declared.condition.Term.{Term}
+use Rattle.rpl_words.specs.declared.condition.Term.TheVariants.{Test, Group}
+use Rattle.rpl_words.specs.declared.condition.RplTest.TheVariants.{Destination, IsEmpty}
 use Rattle.rpl_forms.specs.declared.item.Header.TheVariants.{PrefixSet, Policy}
 use Rattle.rpl_forms.specs.declared.item.Action.TheVariants.{SetWeight, SetCommunity}
 use Rattle.rpl_forms.specs.declared.item.Argument.{Argument}
@@ -17,15 +17,17 @@ use Rattle.rpl_forms.specs.declared.item.PolicyStatement.TheVariants.{If, Pass, 
 use Rattle.rpl_forms.specs.declared.item.RplForm.{RplForm}
 use Rattle.rpl_forms.specs.declared.item.RplForm.TheVariants.{Header as HeaderForm, Statement, End, Other}
 use Rattle.rpl_forms.specs.declared.item.RplItem.{RplItem}
-use Rattle.junos_calls.specs.Calls.{leads}
-use Rattle.junos_calls.specs.Depth.{is_at, is_too_deep}
+use Rattle.policy_calls.specs.Calls.{leads}
+use Rattle.policy_calls.specs.Depth.{is_at, is_too_deep}
 use Rattle.rpl_calls.specs.Policies.{spoken_from, place_from}
 use Rattle.rpl_calls.specs.Calls.{CallParts}
 use Rattle.rpl_calls.specs.declared.ask.Ask.TheVariants.{Number, Rising}
 use Rattle.rpl_calls.specs.declared.ask.Bound.TheVariants.{Fixed, Own}
-use Rattle.rpl_reader.specs.Uses.{uses_of}
+use Rattle.rpl_facts.specs.Uses.{uses_of}
 use Rattle.rpl_reader.specs.Depth.{has_deep_group}
-use Rattle.rpl_reader.specs.Causes.{has_wide, has_cause}
+use Rattle.rpl_facts.specs.Blocks.{has_wide}
+use Rattle.rpl_reader.specs.Facts.{Facts, facts_of, before_of}
+use Rattle.rpl_reader.specs.Causes.{has_cause}
 use Rattle.rpl_reader.specs.Profile.{wrong_at}
 
 -- an item at a place
@@ -45,7 +47,7 @@ all_of [] fs = fs
 all_of (f ∷ before) fs = all_of before (f ∷ fs)
 
 abbrev has : Row → Bool
-has r = has_cause (codes "P") (items_from 0 (all_of r.0 (r.1 ∷ r.2))) (items_from 0 r.0) r.1 r.3
+has r = has_cause (codes "P") (facts_of (codes "P") (items_from 0 (all_of r.0 (r.1 ∷ r.2)))) (before_of (items_from 0 r.0)) r.1 r.3
 
 abbrev are : List Row → Type 0
 are rows = map has rows ≡ map (λ r. r.4) rows
@@ -114,14 +116,17 @@ of_depth = refl
 abbrev call : List Argument → CallParts
 call arguments = record { caller = codes "P"; apply = record { policy = codes "Q"; arguments = arguments }; own = []; span = record { start = 0; end = 1 } }
 
+abbrev no_facts : Facts
+no_facts = facts_of [] []
+
 -- a weight of 65536 is written where one is asked for; two bounds that don't rise blame the second, or the first where
 -- the second is one of the element
 arguments :
-    wrong_at [] (call (Written (codes "65536") ∷ [])) 7 (Number (record { place = 0; least = 0; most = 65535 }))
-    ∷ wrong_at [] (call (Written (codes "65535") ∷ [])) 7 (Number (record { place = 0; least = 0; most = 65535 }))
-    ∷ wrong_at [] (call (Written (codes "20") ∷ Written (codes "19") ∷ [])) 7 (Rising (record { least = 8; low = Own 0; high = Own 1 }))
-    ∷ wrong_at [] (call (Written (codes "20") ∷ Written (codes "20") ∷ [])) 7 (Rising (record { least = 8; low = Own 0; high = Own 1 }))
-    ∷ wrong_at [] (call (Written (codes "20") ∷ [])) 7 (Rising (record { least = 8; low = Own 0; high = Fixed 19 })) ∷ []
+    wrong_at no_facts (call (Written (codes "65536") ∷ [])) 7 (Number (record { place = 0; least = 0; most = 65535 }))
+    ∷ wrong_at no_facts (call (Written (codes "65535") ∷ [])) 7 (Number (record { place = 0; least = 0; most = 65535 }))
+    ∷ wrong_at no_facts (call (Written (codes "20") ∷ Written (codes "19") ∷ [])) 7 (Rising (record { least = 8; low = Own 0; high = Own 1 }))
+    ∷ wrong_at no_facts (call (Written (codes "20") ∷ Written (codes "20") ∷ [])) 7 (Rising (record { least = 8; low = Own 0; high = Own 1 }))
+    ∷ wrong_at no_facts (call (Written (codes "20") ∷ [])) 7 (Rising (record { least = 8; low = Own 0; high = Fixed 19 })) ∷ []
     ≡ Some 7 ∷ None ∷ Some 7 ∷ None ∷ Some 7 ∷ []
 unfolding number_in
 arguments = refl

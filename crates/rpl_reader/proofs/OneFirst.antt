@@ -9,7 +9,7 @@ use Rattle.rpl_forms.specs.declared.item.RplItem.{RplItem}
 use Rattle.rpl_reader.specs.Profile.{rank, ComesFirst, HasFault, IsSound, IsFirstFault}
 
 -- a cause stands at its place in the table
-stands : (c : Cause) → slice_get causes (rank c) ≡ Some c
+pub stands : (c : Cause) → slice_get causes (rank c) ≡ Some c
 stands UnknownForm = refl
 stands DefinedTwice = refl
 stands SequenceTwice = refl

@@ -1,15 +1,13 @@
 -- How deep `if`s and the parentheses of conditions are nested.
-use Rattle.std.specs.Prelude.{ℕ, ◌+◌, ◌-◌, Bool, true, false, ◌||◌, ◌&&◌, nat_le, max, List, [], ◌∷◌, Option, Some, None}
-use Rattle.rpl_forms.specs.declared.condition.Term.{Term}
-use Rattle.rpl_forms.specs.declared.condition.Term.TheVariants.{Test, Group, Not, And, Or}
+use Rattle.std.specs.Prelude.{ℕ, ◌+◌, ◌-◌, Bool, true, false, ◌||◌, ◌&&◌, nat_le, max, List, [], ◌∷◌, Option, Some}
+use Rattle.rpl_words.specs.declared.condition.Term.{Term}
+use Rattle.rpl_words.specs.declared.condition.Term.TheVariants.{Test, Group, Not, And, Or}
 use Rattle.rpl_forms.specs.declared.item.IfWord.{IfWord}
 use Rattle.rpl_forms.specs.declared.item.IfWord.TheVariants.{If as IfBegins, EndIf as IfEnds}
 use Rattle.rpl_forms.specs.declared.item.PolicyStatement.{PolicyStatement}
 use Rattle.rpl_forms.specs.declared.item.PolicyStatement.TheVariants.{If, ElseIf, EndIf}
 use Rattle.rpl_forms.specs.declared.item.RplForm.{RplForm}
 use Rattle.rpl_forms.specs.declared.item.RplForm.TheVariants.{Statement, Other}
-use Rattle.rpl_forms.specs.declared.item.RplItem.{RplItem}
-use Rattle.rpl_calls.specs.Policies.{opens}
 
 -- a statement opens an `if`
 abbrev pub begins_if : PolicyStatement → Bool
@@ -43,11 +41,6 @@ abbrev pub ifs_behind : RplForm → ℕ → ℕ
 ifs_behind (Statement s) n = ifs_past s n
 ifs_behind (Other o) n = ifs_past_word o.keyword n
 ifs_behind _ n = n
-
--- the `if`s that are open behind these items, the nearest first: a block begins with none
-abbrev pub ifs_open : List RplItem → ℕ
-ifs_open [] = 0
-ifs_open (i ∷ before) = elim (opens i.form) [ Some kind ↦ 0 | None ↦ ifs_behind i.form (ifs_open before) ]
 
 -- the depth of two conditions that are joined, and of what stands below them
 abbrev pub joined : List ℕ → List ℕ
@@ -84,6 +77,6 @@ abbrev pub condition_deep : RplForm → Bool
 condition_deep (Statement s) = groups_deep s
 condition_deep _ = false
 
--- too deep: an `if`, or a parenthesis in the condition, beyond nesting 128
-abbrev pub is_too_deep : List RplItem → RplForm → Bool
-is_too_deep before form = (is_if form && nat_le 128 (ifs_open before)) || condition_deep form
+-- too deep: an `if` where so many are open, or a parenthesis in the condition, beyond nesting 128
+abbrev pub is_too_deep : ℕ → RplForm → Bool
+is_too_deep ifs form = (is_if form && nat_le 128 ifs) || condition_deep form

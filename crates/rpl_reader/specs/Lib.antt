@@ -1,5 +1,5 @@
-pub mod Uses
 pub mod Depth
+pub mod Facts
 pub mod Causes
 pub mod Reach
 pub mod Profile

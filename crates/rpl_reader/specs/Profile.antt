@@ -1,5 +1,5 @@
 -- The profile of an RPL policy: the faults of what it reaches, each cause a rule of its own, and the first fault.
-use Rattle.std.specs.Prelude.{◌≡◌, ℕ, ◌<◌, ◌≤◌, ◌⊎◌, Bool, true, false, nat_lt, List, [], ◌∷◌, Option, Some, None, slice_get}
+use Rattle.std.specs.Prelude.{◌≡◌, ℕ, ◌<◌, ◌≤◌, ◌⊎◌, Bool, true, false, not, nat_lt, List, [], ◌∷◌, Option, Some, None, slice_get}
 use Rattle.text_words.specs.declared.statement.Span.{Span}
 use Rattle.text_words.specs.declared.rpl_blocks.BlockKind.TheVariants.{Policy as PolicyBlock}
 use Rattle.policy_text.specs.Causes.{Place}
@@ -15,8 +15,11 @@ use Rattle.rpl_calls.specs.declared.ask.Ask.TheVariants.{Number, Set, Plain, Ris
 use Rattle.rpl_calls.specs.declared.ask.Bound.{Bound}
 use Rattle.rpl_calls.specs.declared.ask.Bound.TheVariants.{Fixed, Written}
 use Rattle.rpl_calls.specs.declared.ask.RisingAsk.{RisingAsk}
+use Rattle.rpl_calls.specs.declared.ask.SetSort.{SetSort}
 use Rattle.rpl_calls.specs.declared.demand.Demand.{Demand}
-use Rattle.rpl_reader.specs.Causes.{has_cause, is_there, block_of, has_wide}
+use Rattle.rpl_facts.specs.Blocks.{is_there, block_of}
+use Rattle.rpl_reader.specs.Facts.{Facts, facts_of, before_of}
+use Rattle.rpl_reader.specs.Causes.{has_cause}
 use Rattle.rpl_reader.specs.Reach.{IsReachedCall, IsDemanded, IsReached}
 
 -- a policy as clauses see it
@@ -36,14 +39,14 @@ is_out least most None = false
 is_out least most (Some word) = elim (number_within least most word) [ None ↦ true | Some n ↦ false ]
 
 -- it is written, and no set of the sort has this name
-abbrev pub is_no_set : List RplItem → Ask → Option (List ℕ) → Bool
-is_no_set all (Set a) (Some word) = elim (is_there (block_of a.sort) word all) [ true ↦ false | false ↦ true ]
-is_no_set all _ _ = false
+abbrev pub is_no_set : Facts → SetSort → Option (List ℕ) → Bool
+is_no_set facts sort None = false
+is_no_set facts sort (Some word) = not (facts.there (block_of sort) word)
 
 -- it is written, and it names a community set with an element that isn't a single community
-abbrev pub is_unplain : List RplItem → Option (List ℕ) → Bool
-is_unplain all None = false
-is_unplain all (Some word) = has_wide word false all
+abbrev pub is_unplain : Facts → Option (List ℕ) → Bool
+is_unplain facts None = false
+is_unplain facts (Some word) = facts.wide word
 
 -- of two bounds that don't rise: the call in which the second was written, or else the first
 abbrev pub blamed : Bound → Bound → Option ℕ
@@ -57,11 +60,11 @@ blamed_of None = None
 blamed_of (Some r) = blamed r.low r.high
 
 -- the call whose argument an ask at call k, which is c, finds wrong
-abbrev pub wrong_at : List RplItem → CallParts → ℕ → Ask → Option ℕ
-wrong_at all c k (Number a) = elim (is_out a.least a.most (word_at c a.place)) [ true ↦ Some k | false ↦ None ]
-wrong_at all c k (Set a) = elim (is_no_set all (Set a) (word_at c a.place)) [ true ↦ Some k | false ↦ None ]
-wrong_at all c k (Plain a) = None
-wrong_at all c k (Rising r) = blamed_of (rising_up c k r)
+abbrev pub wrong_at : Facts → CallParts → ℕ → Ask → Option ℕ
+wrong_at facts c k (Number a) = elim (is_out a.least a.most (word_at c a.place)) [ true ↦ Some k | false ↦ None ]
+wrong_at facts c k (Set a) = elim (is_no_set facts a.sort (word_at c a.place)) [ true ↦ Some k | false ↦ None ]
+wrong_at facts c k (Plain a) = None
+wrong_at facts c k (Rising r) = blamed_of (rising_up c k r)
 
 -- ---- the faults
 
@@ -69,7 +72,7 @@ wrong_at all c k (Rising r) = blamed_of (rising_up c k r)
 pub record HasItemFault (policy : List ℕ) (all : List RplItem) (span : Span) (cause : Cause) : Type 0 where
   pub place : Place all
   pub reached : IsReached policy all place.before place.item
-  pub has : has_cause policy all place.before place.item.form cause ≡ true
+  pub has : has_cause policy (facts_of policy all) (before_of place.before) place.item.form cause ≡ true
   pub span_is : span ≡ place.item.span
 
 -- bad-argument: what a reached call is asked for finds an argument wrong that was written in a call
@@ -79,7 +82,7 @@ pub record IsBadCall (policy : List ℕ) (all : List RplItem) (span : Span) : Ty
   pub call : CallParts
   pub reached : IsReachedCall policy all demand.call call
   pub bad : ℕ
-  pub wrong : wrong_at all call demand.call demand.ask ≡ Some bad
+  pub wrong : wrong_at (facts_of policy all) call demand.call demand.ask ≡ Some bad
   pub bad_call : CallParts
   pub bad_at : slice_get (calls_of all) bad ≡ Some bad_call
   pub span_is : span ≡ bad_call.span
@@ -91,7 +94,7 @@ pub record IsGivenWide (policy : List ℕ) (all : List RplItem) (span : Span) : 
   pub call : CallParts
   pub reached : IsReachedCall policy all k call
   pub asked : IsDemanded all (record { call = k; ask = Plain (record { place = place; start = span.start; end = span.end }) })
-  pub wide : is_unplain all (word_at call place) ≡ true
+  pub wide : is_unplain (facts_of policy all) (word_at call place) ≡ true
 
 -- an argument that is handed on has the cause
 abbrev pub HasGivenFault : List ℕ → List RplItem → Span → Cause → Type 0

@@ -1,7 +1,7 @@
-//! The profile of an RPL policy, and the check. It stands on `rpl_tree`, `rpl_calls`, `junos_calls` (which policy leads to
-//! which) and what lies below them. Its definitions are in `specs/`: what is used (`Uses`), how deep conditions are nested
-//! (`Depth`), the causes that a statement has by itself (`Causes`), what is reached (`Reach`), and all faults with the
-//! first of them (`Profile`).
+//! The profile of an RPL policy, and the check. It stands on `rpl_tree`, `rpl_calls`, `policy_calls` (which policy leads to
+//! which), `rpl_facts` (what the text defines and uses) and what lies below them. Its definitions are in `specs/`: how deep
+//! conditions are nested (`Depth`), what the rules look at beside a statement (`Facts`), the causes that a statement has by
+//! itself (`Causes`), what is reached (`Reach`), and all faults with the first of them (`Profile`).
 #![tactic(auto)]
 
 mod checked;

@@ -7,7 +7,7 @@ use Rattle.text_words.specs.declared.fault.BrokenKind.{BrokenKind}
 use Rattle.text_words.specs.declared.fault.BrokenKind.TheVariants.{Misplaced, Unended}
 use Rattle.text_words.specs.declared.fault.TextFault.{TextFault}
 use Rattle.text_words.specs.declared.fault.TextFault.TheVariants.{Broken}
-use Rattle.rpl_forms.specs.declared.condition.Term.{Term}
+use Rattle.rpl_words.specs.declared.condition.Term.{Term}
 use Rattle.rpl_forms.specs.declared.item.Apply.{Apply}
 use Rattle.rpl_forms.specs.declared.item.PolicyStatement.TheVariants.{If, ElseIf, Else, EndIf, Pass, Done, Drop, Apply as ApplyPolicy}
 use Rattle.rpl_forms.specs.declared.item.RplForm.TheVariants.{Statement, End}

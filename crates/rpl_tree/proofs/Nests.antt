@@ -1,6 +1,6 @@
 -- Steps that are spelled as statements nest as these steps.
 use Rattle.std.proofs.Common.{◌≡◌, refl, sym, ap, ◌∙◌, List, ◌∷◌}
-use Rattle.rpl_forms.specs.declared.condition.Term.{Term}
+use Rattle.rpl_words.specs.declared.condition.Term.{Term}
 use Rattle.rpl_forms.specs.declared.item.PolicyStatement.TheVariants.{If, ElseIf, Else, EndIf}
 use Rattle.rpl_forms.specs.declared.item.RplForm.{RplForm}
 use Rattle.rpl_forms.specs.declared.item.RplForm.TheVariants.{Statement, End}

@@ -1,7 +1,7 @@
 -- How the statements of a policy nest: from the flat list of what they say to steps that take one another as
 -- parts. The list is read from its end, so that each `if` meets the branches and the steps behind it whole.
 use Rattle.std.specs.Prelude.{List, [], ◌∷◌, Option, Some, None}
-use Rattle.rpl_forms.specs.declared.condition.Term.{Term}
+use Rattle.rpl_words.specs.declared.condition.Term.{Term}
 use Rattle.rpl_forms.specs.declared.item.Action.{Action}
 use Rattle.rpl_forms.specs.declared.item.Apply.{Apply}
 use Rattle.rpl_forms.specs.declared.item.IfWord.{IfWord}

@@ -8,7 +8,7 @@ use Rattle.text_words.specs.declared.rpl_blocks.BlockKind.{BlockKind}
 use Rattle.text_words.specs.declared.statement.Statement.{Statement}
 use Rattle.text_words.specs.declared.statement.Word.{Word}
 use Rattle.rpl_forms.specs.Statements.{header_in, form_in, tests_in}
-use Rattle.rpl_forms.specs.Tokens.{tokens}
+use Rattle.rpl_words.specs.Tokens.{tokens}
 use Rattle.rpl_forms.specs.declared.item.RplForm.{RplForm}
 use Rattle.rpl_forms.specs.declared.item.RplForm.TheVariants.{Header as OfHeader, End, Other}
 use Rattle.rpl_forms.specs.declared.item.RplItem.{RplItem}

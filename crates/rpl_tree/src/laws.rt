@@ -6,7 +6,7 @@ ghost use Rattle.text_words.specs.declared.fault.TextFault.{TextFault};
 ghost use Rattle.text_words.specs.declared.fault.TextFault.TheVariants.{Broken};
 ghost use Rattle.text_words.specs.declared.statement.Span.{Span};
 ghost use Rattle.text_words.specs.declared.statement.Statement.{Statement};
-ghost use Rattle.rpl_forms.specs.declared.condition.Term.{Term};
+ghost use Rattle.rpl_words.specs.declared.condition.Term.{Term};
 ghost use Rattle.rpl_forms.specs.declared.item.PolicyStatement.TheVariants.{Else, EndIf};
 ghost use Rattle.rpl_forms.specs.declared.item.RplForm.{RplForm};
 ghost use Rattle.rpl_forms.specs.declared.item.RplForm.TheVariants.{Statement as Says, End};

@@ -1,12 +1,11 @@
 // Where a statement stands: in which block, and with which `if`s open.
 ghost use Rattle.std.specs.Prelude.{◌≡◌, [], ◌∷◌, IfOk, true, false, Some, None};
-ghost use Rattle.text_words.specs.RplCut.{is_word, opened_by};
 ghost use Rattle.rpl_tree.specs.Blocks.{opens, ends_block, if_word, begins_with, keyword, branched, closed, ifs_behind, outside};
 ghost use Rattle.rpl_tree.specs.Placed.{IsPlaced};
 
 use rpl_forms::IfWord;
 use std::alloc::Global;
-use text_words::{BlockKind, Memory, Stack, Word};
+use text_words::{BlockKind, Memory, Stack, Word, is_word, opened_by};
 
 /// Where a statement stands: the block that is open, and the `if`s that are open in it, each with whether
 /// its `else` has come.
@@ -14,31 +13,6 @@ use text_words::{BlockKind, Memory, Stack, Word};
 pub(crate) struct Standing {
     pub(crate) block: Option<BlockKind>,
     pub(crate) ifs: Stack<bool>,
-}
-
-fn is_word(key: &[u8], word: &Word) -> bool
-    ensures { result ≡ is_word key.now word.now }
-{
-    !word.quoted && key == word.text.as_slice()
-}
-
-// The block that a line with this first word opens.
-fn opened_by(word: &Word) -> Option<BlockKind>
-    ensures { result ≡ opened_by word.now }
-{
-    if is_word(b"prefix-set", word) {
-        return Some(BlockKind::PrefixSet);
-    }
-    if is_word(b"community-set", word) {
-        return Some(BlockKind::CommunitySet);
-    }
-    if is_word(b"as-path-set", word) {
-        return Some(BlockKind::PathSet);
-    }
-    if is_word(b"route-policy", word) {
-        return Some(BlockKind::Policy);
-    }
-    None
 }
 
 /// The block that a statement outside blocks opens.

@@ -14,19 +14,19 @@ use Rattle.policy_text.specs.Names.{first_some}
 use Rattle.policy_text.specs.Phrases.{Agrees}
 use Rattle.policy_text.proofs.Phrases.{when_found, same_bytes, first_found, map_found}
 use Rattle.policy_text.proofs.Values.{address_agrees}
-use Rattle.rpl_forms.specs.Tokens.{Token, plain, is_key, IsPlain, One, Behind, First, plain_in, only, after, behind}
-use Rattle.rpl_forms.specs.Values.{IsNumberWord, rpl_number_in}
-use Rattle.rpl_forms.specs.Elements.{SpellRect, SpellSet, rect_element_in, set_in}
+use Rattle.rpl_words.specs.Tokens.{Token, plain, is_key, IsPlain, One, Behind, First, plain_in, only, after, behind}
+use Rattle.rpl_words.specs.Values.{IsNumberWord, rpl_number_in}
+use Rattle.rpl_words.specs.Elements.{SpellRect, SpellSet, rect_element_in, set_in}
 use Rattle.rpl_forms.specs.Statements.{SpellNumber, IsNextHop, IsCount, SpellPrepend, SpellSetting, SpellAction, number_in_policy, next_hop_in, is_some, count_in, count_or_once, prepend_in, before_last, added_in, setting_in, set_number_in, set_value_in, set_action_in, action_in}
 use Rattle.rpl_forms.specs.declared.item.Action.{Action}
 use Rattle.rpl_forms.specs.declared.item.Action.TheVariants.{SetMed, SetLocalPreference, SetWeight, SetOrigin, SetNextHop, SetCommunity, DeleteCommunity, Prepend as PrependPath}
-use Rattle.rpl_forms.specs.declared.number.RplNumber.{RplNumber}
-use Rattle.rpl_forms.specs.declared.number.RplNumber.TheVariants.{Fixed, Parameter as GivenNumber}
-use Rattle.rpl_forms.specs.declared.number.RplSet.{RplSet}
-use Rattle.rpl_forms.specs.declared.number.RplSet.TheVariants.{Named, Parameter as GivenSet, Listed as Written}
-use Rattle.rpl_forms.proofs.Agree.Tokens.{key_found, key_is, plain_agrees, one_agrees, behind_agrees, first_agrees, after_found}
-use Rattle.rpl_forms.proofs.Agree.Values.{rpl_number_agrees}
-use Rattle.rpl_forms.proofs.Agree.Tests.{key_behind, communities, one_origin}
+use Rattle.rpl_words.specs.declared.number.RplNumber.{RplNumber}
+use Rattle.rpl_words.specs.declared.number.RplNumber.TheVariants.{Fixed, Parameter as GivenNumber}
+use Rattle.rpl_words.specs.declared.number.RplSet.{RplSet}
+use Rattle.rpl_words.specs.declared.number.RplSet.TheVariants.{Named, Parameter as GivenSet, Listed as Written}
+use Rattle.rpl_words.proofs.Agree.Tokens.{key_found, key_is, plain_agrees, one_agrees, behind_agrees, first_agrees, after_found}
+use Rattle.rpl_words.proofs.Agree.Values.{rpl_number_agrees}
+use Rattle.rpl_words.proofs.Agree.Tests.{key_behind, communities, one_origin}
 
 -- ---- numbers, next hops, counts
 

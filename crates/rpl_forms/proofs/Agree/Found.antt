@@ -6,12 +6,12 @@ use Rattle.std.proofs.lemmas.List.{append-nil}
 use Rattle.route_types.proofs.Numbers.{bind_found, some_is}
 use Rattle.policy_text.specs.Phrases.{Agrees}
 use Rattle.policy_text.proofs.Phrases.{map_found}
-use Rattle.rpl_forms.specs.Tokens.{Token}
-use Rattle.rpl_forms.specs.Conditions.{Condition, Asks as AsksFor, Grouped, Negated, Both, Either, ByOr, ByAnd, ByNot, is_shaped, SpellCondition, SpellTerms}
+use Rattle.rpl_words.specs.Tokens.{Token}
+use Rattle.rpl_words.specs.Conditions.{Condition, Asks as AsksFor, Grouped, Negated, Both, Either, ByOr, ByAnd, ByNot, is_shaped, SpellCondition, SpellTerms}
 use Rattle.rpl_forms.specs.Terms.{marks_behind, nothing_waits, repeated_not, completed, divided, taken, terms_from, condition_in}
-use Rattle.rpl_forms.specs.declared.condition.RplTest.{RplTest}
-use Rattle.rpl_forms.specs.declared.condition.Term.{Term}
-use Rattle.rpl_forms.specs.declared.condition.Term.TheVariants.{Test, Group, Not, And}
+use Rattle.rpl_words.specs.declared.condition.RplTest.{RplTest}
+use Rattle.rpl_words.specs.declared.condition.Term.{Term}
+use Rattle.rpl_words.specs.declared.condition.Term.TheVariants.{Test, Group, Not, And}
 use Rattle.rpl_forms.specs.declared.marks.Level.{Level}
 use Rattle.rpl_forms.specs.declared.marks.Mark.{Mark}
 use Rattle.rpl_forms.specs.declared.marks.Mark.TheVariants.{Asks, Opens, Closes, Negates, Joins, Divides}

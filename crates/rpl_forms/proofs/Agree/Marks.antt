@@ -10,21 +10,21 @@ use Rattle.route_types.proofs.Numbers.{bind_found, some_is}
 use Rattle.policy_text.specs.Phrases.{IsOneOf, one_of}
 use Rattle.policy_text.proofs.Phrases.{same_bytes, map_found}
 use Rattle.policy_text.proofs.Agree.{one_of_agrees}
-use Rattle.rpl_forms.specs.Tokens.{Token, plain, is_key, after, place_of}
-use Rattle.rpl_forms.specs.Values.{is_inner_name}
-use Rattle.rpl_forms.specs.Elements.{SpellPathTest, SpellSet}
-use Rattle.rpl_forms.specs.Conditions.{SpellTest, test_in, set_words, begin_with, asks_for_prefixes, asks_for_communities, asks_for_set, value_words, words_behind}
+use Rattle.rpl_words.specs.Tokens.{Token, plain, is_key, after, place_of}
+use Rattle.rpl_words.specs.Values.{is_inner_name}
+use Rattle.rpl_words.specs.Elements.{SpellPathTest, SpellSet}
+use Rattle.rpl_words.specs.Conditions.{SpellTest, test_in, set_words, begin_with, asks_for_prefixes, asks_for_communities, asks_for_set, value_words, words_behind}
 use Rattle.rpl_forms.specs.Terms.{signs, sign_in, mark_at, marks_behind}
-use Rattle.rpl_forms.specs.declared.condition.RplTest.{RplTest}
-use Rattle.rpl_forms.specs.declared.condition.RplTest.TheVariants.{Destination, NextHop, PathIn, Path, MatchesAny, MatchesEvery, IsEmpty, Med, Origin as OfOrigin}
-use Rattle.rpl_forms.specs.declared.element.PathTest.{PathTest}
-use Rattle.rpl_forms.specs.declared.element.PathTest.TheVariants.{Length, PassesThrough, OriginatesFrom, NeighborIs}
+use Rattle.rpl_words.specs.declared.condition.RplTest.{RplTest}
+use Rattle.rpl_words.specs.declared.condition.RplTest.TheVariants.{Destination, NextHop, PathIn, Path, MatchesAny, MatchesEvery, IsEmpty, Med, Origin as OfOrigin}
+use Rattle.rpl_words.specs.declared.element.PathTest.{PathTest}
+use Rattle.rpl_words.specs.declared.element.PathTest.TheVariants.{Length, PassesThrough, OriginatesFrom, NeighborIs}
 use Rattle.rpl_forms.specs.declared.marks.Mark.{Mark}
 use Rattle.rpl_forms.specs.declared.marks.Mark.TheVariants.{Asks, Opens, Closes, Negates, Joins, Divides}
-use Rattle.rpl_forms.specs.declared.number.RplSet.{RplSet}
-use Rattle.rpl_forms.specs.declared.number.RplSet.TheVariants.{Named, Parameter as GivenSet, Listed as Written}
-use Rattle.rpl_forms.proofs.Agree.Tokens.{key_is, plain_agrees}
-use Rattle.rpl_forms.proofs.Agree.Tests.{test_agrees}
+use Rattle.rpl_words.specs.declared.number.RplSet.{RplSet}
+use Rattle.rpl_words.specs.declared.number.RplSet.TheVariants.{Named, Parameter as GivenSet, Listed as Written}
+use Rattle.rpl_words.proofs.Agree.Tokens.{key_is, plain_agrees}
+use Rattle.rpl_words.proofs.Agree.Tests.{test_agrees}
 
 -- a word, and then words that spell the other marks
 abbrev Sign : List ℕ → (List Token → Type 0) → List Token → Type 0

@@ -7,14 +7,14 @@ use Rattle.policy_text.specs.Names.{first_some}
 use Rattle.policy_text.specs.Phrases.{Agrees, IsOneOf, one_of}
 use Rattle.policy_text.proofs.Phrases.{first_found, map_found}
 use Rattle.policy_text.proofs.Agree.{one_of_agrees}
-use Rattle.rpl_forms.specs.Tokens.{Token, plain, IsPlain, One, Behind, UpTo, Called, plain_in, only, after, behind, up_to, called_in}
-use Rattle.rpl_forms.specs.Values.{IsHeaderName, IsInnerName, IsParameter, header_name_in, inner_name_in, parameter_in}
-use Rattle.rpl_forms.specs.Elements.{prefix_element_in, rect_element_in, path_element_in}
-use Rattle.rpl_forms.specs.Conditions.{SpellTerms}
+use Rattle.rpl_words.specs.Tokens.{Token, plain, IsPlain, One, Behind, UpTo, Called, plain_in, only, after, behind, up_to, called_in}
+use Rattle.rpl_words.specs.Values.{IsHeaderName, IsInnerName, IsParameter, header_name_in, inner_name_in, parameter_in}
+use Rattle.rpl_words.specs.Elements.{prefix_element_in, rect_element_in, path_element_in}
+use Rattle.rpl_words.specs.Conditions.{SpellTerms}
 use Rattle.rpl_forms.specs.Terms.{condition_in}
 use Rattle.rpl_forms.specs.Statements.{SpellHeader, SpellBranch, SpellAction, IsArgument, SpellStatement, SpellWithin, single_words, set_header_in, policy_header_in, header_in, branch_in, action_in, argument_in, apply_in, single_word_in, conditional_in, statement_in, form_in}
-use Rattle.rpl_forms.specs.declared.condition.Term.{Term}
-use Rattle.rpl_forms.specs.declared.element.Element.TheVariants.{Prefix as PrefixOf, Community as CommunityOf, Path as PathOf}
+use Rattle.rpl_words.specs.declared.condition.Term.{Term}
+use Rattle.rpl_words.specs.declared.element.Element.TheVariants.{Prefix as PrefixOf, Community as CommunityOf, Path as PathOf}
 use Rattle.rpl_forms.specs.declared.item.Action.{Action}
 use Rattle.rpl_forms.specs.declared.item.Action.TheVariants.{SetMed, SetLocalPreference, SetWeight, SetOrigin, SetNextHop, SetCommunity, DeleteCommunity, Prepend as PrependPath}
 use Rattle.rpl_forms.specs.declared.item.Argument.{Argument}
@@ -25,9 +25,9 @@ use Rattle.rpl_forms.specs.declared.item.PolicyStatement.{PolicyStatement}
 use Rattle.rpl_forms.specs.declared.item.PolicyStatement.TheVariants.{If, ElseIf, Else, EndIf, Pass, Done, Drop, Act, Apply as ApplyPolicy}
 use Rattle.rpl_forms.specs.declared.item.RplForm.{RplForm}
 use Rattle.rpl_forms.specs.declared.item.RplForm.TheVariants.{Element as OfElement, Statement as OfStatement}
-use Rattle.rpl_forms.proofs.Agree.Tokens.{plain_agrees, one_agrees, behind_agrees, up_to_agrees, called_agrees}
-use Rattle.rpl_forms.proofs.Agree.Values.{header_name_agrees, inner_name_agrees, parameter_agrees}
-use Rattle.rpl_forms.proofs.Agree.Elements.{no_name, prefix_element_agrees, rect_element_agrees, path_element_agrees}
+use Rattle.rpl_words.proofs.Agree.Tokens.{plain_agrees, one_agrees, behind_agrees, up_to_agrees, called_agrees}
+use Rattle.rpl_words.proofs.Agree.Values.{header_name_agrees, inner_name_agrees, parameter_agrees}
+use Rattle.rpl_words.proofs.Agree.Elements.{no_name, prefix_element_agrees, rect_element_agrees, path_element_agrees}
 use Rattle.rpl_forms.proofs.Agree.Actions.{action_agrees}
 
 -- ---- headers

@@ -3,12 +3,12 @@ use Rattle.std.proofs.Common.{◌≡◌, refl, sym, ap, ◌∙◌, subst, ℕ, s
 use Rattle.std.specs.Prelude.{codes, option_map}
 use Rattle.std.proofs.lemmas.Bool.{and_parts}
 use Rattle.std.proofs.lemmas.List.{append-nil}
-use Rattle.rpl_forms.specs.Tokens.{Token, plain}
-use Rattle.rpl_forms.specs.Conditions.{Condition, Asks as AsksFor, Grouped, Negated, Both, Either, ByOr, ByAnd, ByNot, is_shaped, SpellCondition, terms_of, SpellTerms}
+use Rattle.rpl_words.specs.Tokens.{Token, plain}
+use Rattle.rpl_words.specs.Conditions.{Condition, Asks as AsksFor, Grouped, Negated, Both, Either, ByOr, ByAnd, ByNot, is_shaped, SpellCondition, terms_of, SpellTerms}
 use Rattle.rpl_forms.specs.Terms.{nothing_waits, repeated_not, completed, divided, taken, terms_from, condition_in}
-use Rattle.rpl_forms.specs.declared.condition.RplTest.{RplTest}
-use Rattle.rpl_forms.specs.declared.condition.Term.{Term}
-use Rattle.rpl_forms.specs.declared.condition.Term.TheVariants.{Test, Group, Not, And, Or}
+use Rattle.rpl_words.specs.declared.condition.RplTest.{RplTest}
+use Rattle.rpl_words.specs.declared.condition.Term.{Term}
+use Rattle.rpl_words.specs.declared.condition.Term.TheVariants.{Test, Group, Not, And, Or}
 use Rattle.rpl_forms.specs.declared.marks.Level.{Level}
 use Rattle.rpl_forms.specs.declared.marks.Mark.{Mark}
 use Rattle.rpl_forms.specs.declared.marks.Mark.TheVariants.{Asks, Opens, Closes, Negates, Joins, Divides}

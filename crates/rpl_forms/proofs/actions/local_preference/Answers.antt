@@ -1,6 +1,6 @@
 use Rattle.std.proofs.Common.{◌∙◌, sym, ap, ℕ, Option}
 use Rattle.std.specs.Prelude.{option_map}
-use Rattle.rpl_forms.specs.declared.number.RplNumber.{RplNumber}
+use Rattle.rpl_words.specs.declared.number.RplNumber.{RplNumber}
 use Rattle.rpl_forms.specs.declared.item.Action.TheVariants.{SetLocalPreference}
 use Rattle.rpl_forms.specs.Statements.{number_in_policy}
 use Rattle.rpl_forms.proofs.actions.local_preference.Goals as goal

@@ -1,5 +1,5 @@
 use Rattle.std.proofs.Common.{◌≡◌, ◌+◌, ◌≤◌, length}
-use Rattle.rpl_forms.specs.Tokens.{tokens}
+use Rattle.rpl_words.specs.Tokens.{tokens}
 use Rattle.rpl_forms.specs.Terms.{read_words, nots_of, condition_in}
 use Rattle.rpl_forms.proofs.condition_words.condition_in.Given as goal
 

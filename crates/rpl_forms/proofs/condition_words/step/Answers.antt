@@ -1,6 +1,6 @@
 use Rattle.std.proofs.Common.{◌∙◌, ap, sym}
 use Rattle.std.specs.Prelude.{option_map}
-use Rattle.rpl_forms.specs.Tokens.{tokens}
+use Rattle.rpl_words.specs.Tokens.{tokens}
 use Rattle.rpl_forms.proofs.MarkSteps.{step_none_words}
 use Rattle.rpl_forms.proofs.condition_words.step.Goals as goal
 

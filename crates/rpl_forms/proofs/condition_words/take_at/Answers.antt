@@ -1,4 +1,4 @@
-use Rattle.rpl_forms.specs.Tokens.{tokens}
+use Rattle.rpl_words.specs.Tokens.{tokens}
 use Rattle.rpl_forms.proofs.MarkSteps.{step_ok, step_not_ok}
 use Rattle.rpl_forms.proofs.condition_words.take_at.Goals as goal
 

@@ -1,0 +1,6 @@
+pub mod Uses
+pub mod Used
+pub mod Spoken
+pub mod Blocks
+pub mod Told
+pub mod Counts

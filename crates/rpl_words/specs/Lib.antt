@@ -1,0 +1,4 @@
+pub mod Tokens
+pub mod Values
+pub mod Elements
+pub mod Conditions
