@@ -1,17 +1,17 @@
 -- The walk that keeps the first answer of each community list finds what the lists answer.
 use Rattle.std.proofs.Common.{◌≡◌, refl, sym, ap, ◌∙◌, ℕ, Bool, true, false, List, [], ◌∷◌, Option, Some, None}
 use Rattle.std.specs.Prelude.{bytes_eq, unwrap_or}
-use Rattle.std.specs.Borrow.{Bor}
-use Rattle.std.specs.BTreeMap.{BTreeMap}
 use Rattle.route_types.specs.declared.community.Community.{Community}
 use Rattle.community_sets.specs.Tests.{test_holds, list_answers}
 use Rattle.community_sets.specs.declared.list.CommEntry.{CommEntry}
+use Rattle.name_maps.specs.Under.{first_of}
+use Rattle.name_maps.specs.declared.map.NameMap.{NameMap}
 use Rattle.ios_tree.specs.declared.item.CommunityListEntry.{CommunityListEntry}
 use Rattle.ios_tree.specs.declared.item.IosForm.{IosForm}
 use Rattle.ios_tree.specs.declared.item.IosForm.TheVariants.{CommunityEntry as OfCommunityList}
 use Rattle.ios_tree.specs.declared.item.IosItem.{IosItem}
 use Rattle.ios_meaning.specs.Lists.{test_of, community_list, community_entry_from}
-use Rattle.ios_meaning.specs.Answers.{first_of, answered_by, answered_from, answered_at, AreCommunityAnswers}
+use Rattle.ios_meaning.specs.Answers.{answered_by, answered_from, held_at, AreCommunityAnswers}
 
 first_kept : (o : Option Bool) (permit rest : Bool) → unwrap_or (first_of o permit) rest ≡ unwrap_or o permit
 first_kept None permit rest = refl
@@ -38,5 +38,5 @@ answered exact cs list [] o = refl
 answered exact cs list (i ∷ is) o = answered exact cs list is (answered_by exact cs list i.form o) ∙ form_step exact cs list i.form (community_list exact list is) o
 
 -- a map that holds for each name the answer of the walk has the answers of the community lists
-pub community_answers : (all : List IosItem) (exact : Bool) (cs : List Community) (m : BTreeMap (Bor (List ℕ)) Bool) → ((list : List ℕ) → answered_at m list ≡ answered_from exact cs list None all) → AreCommunityAnswers all exact cs m
+pub community_answers : (all : List IosItem) (exact : Bool) (cs : List Community) (m : NameMap Bool) → ((list : List ℕ) → held_at m list ≡ answered_from exact cs list None all) → AreCommunityAnswers all exact cs m
 community_answers all exact cs m h = λ list. ap (λ (o : Option Bool). unwrap_or o false) (h list) ∙ answered exact cs list all None

@@ -1,14 +1,14 @@
 -- A draft behind lines makes the route that the lines make of the draft's route.
 use Rattle.std.proofs.Common.{◌≡◌, refl, sym, ap, ◌∙◌, ℕ, Bool, true, false, not, List, [], ◌∷◌, ◌++◌}
-use Rattle.std.specs.Prelude.{filter, reverse, bytes_eq}
-use Rattle.std.proofs.lemmas.List.{reverse-append, reverse-reverse}
+use Rattle.std.specs.Prelude.{filter, bytes_eq}
 use Rattle.route_types.specs.Address.{PrefixParts}
-use Rattle.route_types.specs.Community.{number, set_of, IsAscending}
+use Rattle.route_types.specs.Community.{number, set_of}
 use Rattle.route_types.specs.Route.{RouteParts}
 use Rattle.route_types.specs.declared.community.Community.{Community}
-use Rattle.route_types.specs.declared.route.NextHop.{NextHop}
-use Rattle.route_types.specs.declared.route.Origin.{Origin}
-use Rattle.route_types.proofs.Sets.{same_community, set_itself, set_added, set_kept}
+use Rattle.route_types.proofs.Sets.{same_community, set_kept}
+use Rattle.route_drafts.specs.Drafts.{route_of}
+use Rattle.route_drafts.specs.declared.draft.Draft.{Draft}
+use Rattle.route_drafts.proofs.Drafts.{prepended, set}
 use Rattle.community_sets.specs.Tests.{test_holds, list_answers}
 use Rattle.community_sets.specs.declared.list.CommEntry.{CommEntry}
 use Rattle.ios_reader.specs.Entries.{Entry}
@@ -20,8 +20,7 @@ use Rattle.ios_tree.specs.declared.item.MapLine.{MapLine}
 use Rattle.ios_tree.specs.declared.item.MapLine.TheVariants.{MatchPrefix, MatchNextHop, MatchCommunity, MatchPath, MatchMetric, SetLocalPreference, SetMetric, SetWeight, SetPrepend, SetOrigin, SetNextHop, SetCommunity, DeleteCommunities, Continue, Description}
 use Rattle.ios_meaning.specs.Lists.{test_of, community_list, community_entry_from}
 use Rattle.ios_meaning.specs.Meaning.{deletes, set_by, set_by_lines, set_by_entry, set_by_entries}
-use Rattle.ios_meaning.specs.Drafts.{entries_named, entry_named, entries_at, answers_alone, Removes, removes_by, route_of, draft_by, draft_by_lines, deletes_as, draft_by_entry, draft_by_entries}
-use Rattle.ios_meaning.specs.declared.draft.Draft.{Draft}
+use Rattle.ios_meaning.specs.Drafts.{entries_named, entry_named, entries_at, answers_alone, Removes, removes_by, draft_by, draft_by_lines, deletes_as, draft_by_entry, draft_by_entries}
 use Rattle.ios_meaning.proofs.Alike.{filter_alike}
 use Rattle.ios_meaning.proofs.Maps.{Lists}
 
@@ -50,10 +49,6 @@ same_answers list (i ∷ is) c = form_answers list i.form (entries_named list is
 abbrev Right : Removes → List IosItem → Type 0
 Right removes all = (list : List ℕ) (c : Community) → removes list c ≡ list_answers (community_list false list all) (c ∷ [])
 
-set_of_base : (b : Bool) (cs more : List Community) → set_of (elim b [ true ↦ cs | false ↦ [] ] ++ more) ≡ set_of (elim b [ true ↦ set_of cs | false ↦ [] ] ++ more)
-set_of_base true cs more = set_added number same_community cs more
-set_of_base false cs more = refl
-
 by_line : (removes : Removes) (all : List IosItem) → Right removes all → (p : PrefixParts) (l : MapLine) (d : Draft) → route_of p (draft_by removes l d) ≡ set_by all l (route_of p d)
 by_line removes all right p (MatchPrefix m) d = refl
 by_line removes all right p (MatchNextHop m) d = refl
@@ -63,11 +58,10 @@ by_line removes all right p (MatchMetric ns) d = refl
 by_line removes all right p (SetLocalPreference n) d = refl
 by_line removes all right p (SetMetric n) d = refl
 by_line removes all right p (SetWeight n) d = refl
-by_line removes all right p (SetPrepend ns) d =
-    ap (λ (path : List ℕ). record (route_of p d) { path = path }) (reverse-append d.path (reverse ns) ∙ ap (λ (front : List ℕ). front ++ reverse d.path) (reverse-reverse ns))
+by_line removes all right p (SetPrepend ns) d = prepended d (draft_by removes (SetPrepend ns) d) ns refl p
 by_line removes all right p (SetOrigin o) d = refl
 by_line removes all right p (SetNextHop a) d = refl
-by_line removes all right p (SetCommunity s) d = ap (λ (cs : List Community). record (route_of p d) { communities = cs }) (set_of_base s.additive d.communities s.communities)
+by_line removes all right p (SetCommunity s) d = set d (draft_by removes (SetCommunity s) d) s.additive s.communities refl p
 by_line removes all right p (DeleteCommunities list) d =
     ap (λ (cs : List Community). record (route_of p d) { communities = cs })
     (set_kept number same_community (λ c. not (removes list c)) d.communities
@@ -89,15 +83,6 @@ by_entries removes all right p [] d = refl
 by_entries removes all right p (e ∷ es) d = by_entries removes all right p es (draft_by_entry removes e d) ∙ ap (λ (r : RouteParts). set_by_entries all es r) (by_entry removes all right p e d)
 
 -- ---- routes
-
--- the draft of a route makes the route
-pub drafted : (r : RouteParts) (hop : NextHop) (origin : Origin) (preference med weight : ℕ) (path : List ℕ) (cs : List Community) → IsAscending r.communities
-    → hop ≡ r.next_hop → origin ≡ r.origin → preference ≡ r.local_preference → med ≡ r.med → weight ≡ r.weight → path ≡ reverse r.path → cs ≡ r.communities
-    → route_of r.prefix (record { next_hop = hop; path = path; origin = origin; local_preference = preference; med = med; weight = weight; communities = cs }) ≡ r
-drafted r hop origin preference med weight path cs h a b c d e f g =
-    let back : reverse path ≡ r.path = ap (λ (ns : List ℕ). reverse ns) f ∙ reverse-reverse r.path in
-    let set : set_of cs ≡ r.communities = ap (λ (xs : List Community). set_of xs) g ∙ set_itself number same_community r.communities h in
-    simp (a, b, c, d, e, back, set) refl
 
 -- the route of the draft behind entries is what the entries make of the route
 pub changed_route : (all : List IosItem) (m : Lists) (es : List Entry) (r : RouteParts) (d behind : Draft) (p : PrefixParts) (out : RouteParts) → ((list : List ℕ) → entries_at m list ≡ entries_named list all) → p ≡ r.prefix → route_of r.prefix d ≡ r

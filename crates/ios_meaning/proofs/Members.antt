@@ -5,7 +5,6 @@ use Rattle.std.specs.List.{list_any, list_all}
 use Rattle.std.specs.Ordering.{nat_cmp}
 use Rattle.std.specs.declared.cmp.Ordering.TheVariants.{Less, Equal, Greater}
 use Rattle.std.specs.List.Sorted.{IsSortedByKey, IsBinarySearchResult, IsSearchInRange, IsPartitionPoint, IsPermutation}
-use Rattle.std.specs.Prelude.{Option, Some, None, is_some}
 use Rattle.std.proofs.lemmas.Bool.{eq-eqb, cases_order, cases_lt}
 use Rattle.std.proofs.lemmas.List.Folds.{list_any_at, list_any_none}
 use Rattle.std.proofs.lemmas.List.Sorted.{list_any-IsPermutation, searchable_from_sorted}
@@ -18,7 +17,6 @@ use Rattle.ios_tree.specs.declared.item.CommunityShape.{CommunityShape}
 use Rattle.ios_tree.specs.declared.item.CommunityShape.TheVariants.{Standard}
 use Rattle.route_types.proofs.Sets.{Order}
 use Rattle.ios_meaning.specs.Lists.{single, test_of}
-use Rattle.ios_meaning.specs.Answers.{first_of}
 use Rattle.ios_meaning.proofs.Alike.{any_alike, all_alike}
 use native.Mathlib.Numerals.{unary_clauses}
 
@@ -89,11 +87,6 @@ same_set_found ms sorted cs a b moved first here second =
 -- an entry of a standard list holds where all its members are there
 pub standard_holds : (shape : CommunityShape) (members ms cs : List Community) (exact r : Bool) → shape ≡ Standard members → exact ≡ false → ms ≡ members → r ≡ list_all (λ m. has m.0 cs) ms → r ≡ test_holds (test_of exact shape) cs
 standard_holds shape members ms cs exact r s x e found = rw (s, x) (found ∙ ap (λ (xs : List Community). list_all (λ m. has m.0 cs) xs) e ∙ sym (all_fitted_singles members cs))
-
--- the first answer of a list
-pub first_answer : (o : Option Bool) (b : Bool) → is_some o ≡ false → first_of o b ≡ Some b
-first_answer None b h = refl
-first_answer (Some a) b h = absurd cc
 
 -- a community alone has all members where each is the community
 pub standard_alone : (members : List Community) (c : Community) → list_all (λ m. m.0 == c.0) members ≡ all_fitted (map single members) (c ∷ [])

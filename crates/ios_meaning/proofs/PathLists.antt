@@ -1,15 +1,15 @@
 -- The walk that keeps the first answer of each path list finds what the lists answer.
 use Rattle.std.proofs.Common.{◌≡◌, refl, sym, ap, ◌∙◌, ℕ, Bool, true, false, List, [], ◌∷◌, Option, Some, None}
 use Rattle.std.specs.Prelude.{bytes_eq, unwrap_or}
-use Rattle.std.specs.Borrow.{Bor}
-use Rattle.std.specs.BTreeMap.{BTreeMap}
 use Rattle.aspath_text.specs.Finds.{finds_in}
+use Rattle.name_maps.specs.Under.{first_of}
+use Rattle.name_maps.specs.declared.map.NameMap.{NameMap}
 use Rattle.ios_tree.specs.declared.item.PathListEntry.{PathListEntry}
 use Rattle.ios_tree.specs.declared.item.IosForm.{IosForm}
 use Rattle.ios_tree.specs.declared.item.IosForm.TheVariants.{PathEntry as OfPathList}
 use Rattle.ios_tree.specs.declared.item.IosItem.{IosItem}
 use Rattle.ios_meaning.specs.Lists.{path_list, path_entry_from, path_answers}
-use Rattle.ios_meaning.specs.Answers.{first_of, path_answered_by, path_answered_from, answered_at, ArePathAnswers}
+use Rattle.ios_meaning.specs.Answers.{path_answered_by, path_answered_from, held_at, ArePathAnswers}
 
 first_kept : (o : Option Bool) (permit rest : Bool) → unwrap_or (first_of o permit) rest ≡ unwrap_or o permit
 first_kept None permit rest = refl
@@ -36,5 +36,5 @@ answered path list [] o = refl
 answered path list (i ∷ is) o = answered path list is (path_answered_by path list i.form o) ∙ form_step path list i.form (path_list list is) o
 
 -- a map that holds for each name the answer of the walk has the answers of the path lists
-pub path_answers_are : (all : List IosItem) (path : List ℕ) (m : BTreeMap (Bor (List ℕ)) Bool) → ((list : List ℕ) → answered_at m list ≡ path_answered_from path list None all) → ArePathAnswers all path m
+pub path_answers_are : (all : List IosItem) (path : List ℕ) (m : NameMap Bool) → ((list : List ℕ) → held_at m list ≡ path_answered_from path list None all) → ArePathAnswers all path m
 path_answers_are all path m h = λ list. ap (λ (o : Option Bool). unwrap_or o false) (h list) ∙ answered path list all None

@@ -3,8 +3,6 @@ use Rattle.std.proofs.Common.{◌≡◌, refl, sym, ap, subst, ◌∙◌, ℕ, �
 use Rattle.std.specs.Prelude.{nat_le, nat_lt, map, bytes_eq}
 use Rattle.std.specs.Option.{option_map_or}
 use Rattle.std.specs.List.{list_any}
-use Rattle.std.specs.Borrow.{Bor}
-use Rattle.std.specs.BTreeMap.{BTreeMap}
 use Rattle.std.proofs.lemmas.Bool.{leb-true, leb-false, ltb-true, ltb-false, lt-ltb, le-ltb, le-leb, lt-leb}
 use Rattle.route_types.specs.Address.{PrefixParts, width, same_family}
 use Rattle.route_types.specs.declared.address.Address.{Address}
@@ -14,6 +12,7 @@ use Rattle.route_types.specs.declared.route.NextHop.TheVariants.{At}
 use Rattle.route_types.specs.declared.address.Family.TheVariants.{V4, V6}
 use Rattle.prefix_sets.specs.Range.{in_range}
 use Rattle.prefix_sets.specs.FirstMatch.{first_match}
+use Rattle.name_maps.specs.declared.map.NameMap.{NameMap}
 use Rattle.ios_tree.specs.Tree.{family_of}
 use Rattle.ios_tree.specs.declared.item.PrefixListEntry.{PrefixListEntry}
 use Rattle.ios_tree.specs.declared.item.IosForm.{IosForm}
@@ -21,7 +20,7 @@ use Rattle.ios_tree.specs.declared.item.IosForm.TheVariants.{PrefixEntry as OfPr
 use Rattle.ios_tree.specs.declared.item.IosItem.{IosItem}
 use Rattle.ios_meaning.specs.Order.{put_in_order, in_order}
 use Rattle.ios_meaning.specs.Lists.{prefix_entry_from, prefix_entries, prefix_list}
-use Rattle.ios_meaning.specs.Answers.{lower, decided_by, decided_from, decided_at, permits_at, ArePrefixAnswers, AreNextHopAnswers}
+use Rattle.ios_meaning.specs.Answers.{lower, decided_by, decided_from, held_at, permits_at, ArePrefixAnswers, AreNextHopAnswers}
 use Rattle.ios_meaning.specs.Meaning.{next_hop_holds}
 use Rattle.ios_meaning.specs.declared.prefix_answers.Deciding.{Deciding}
 use Rattle.ios_meaning.proofs.Alike.{any_alike}
@@ -219,8 +218,8 @@ answer_by p f list all o true s h = ap permit_of (h ∙ sym (decided_is p f list
 answer_by p f list all o false s h = sym (list_answer p f list all ∙ ap permit_of (none_is p f list s all))
 
 -- a map that holds for each name the entry that decides has the answers of the prefix lists
-pub prefix_answers : (all : List IosItem) (p : PrefixParts) (m : BTreeMap (Bor (List ℕ)) Deciding) → ((list : List ℕ) → decided_at m list ≡ decided_from p list None all) → ArePrefixAnswers all p m
-prefix_answers all p m h = λ f list. answer_by p f list all (decided_at m list) (same_family f p.address.family) refl (h list)
+pub prefix_answers : (all : List IosItem) (p : PrefixParts) (m : NameMap Deciding) → ((list : List ℕ) → held_at m list ≡ decided_from p list None all) → ArePrefixAnswers all p m
+prefix_answers all p m h = λ f list. answer_by p f list all (held_at m list) (same_family f p.address.family) refl (h list)
 
 -- ---- lines
 
@@ -230,11 +229,11 @@ any_by false g [] = refl
 any_by false g (x ∷ xs) = any_by false g xs
 
 -- some list of these names answers yes where the map says so
-pub some_of_family : (all : List IosItem) (p : PrefixParts) (m : BTreeMap (Bor (List ℕ)) Deciding) (f : Family) (lists : List (List ℕ)) → ArePrefixAnswers all p m → (same_family f p.address.family && list_any (permits_at m) lists) ≡ list_any (λ list. first_match (prefix_list f list all) p) lists
+pub some_of_family : (all : List IosItem) (p : PrefixParts) (m : NameMap Deciding) (f : Family) (lists : List (List ℕ)) → ArePrefixAnswers all p m → (same_family f p.address.family && list_any (permits_at m) lists) ≡ list_any (λ list. first_match (prefix_list f list all) p) lists
 some_of_family all p m f lists h = any_by (same_family f p.address.family) (permits_at m) lists ∙ any_alike (λ list. same_family f p.address.family && permits_at m list) (λ list. first_match (prefix_list f list all) p) (h f) lists
 
 -- the same on a next hop that is an address
-pub next_hop_of_family : (all : List IosItem) (hop : NextHop) (a : Address) (m : BTreeMap (Bor (List ℕ)) Deciding) (f : Family) (lists : List (List ℕ)) (r : Bool) → hop ≡ At a → AreNextHopAnswers all hop m
+pub next_hop_of_family : (all : List IosItem) (hop : NextHop) (a : Address) (m : NameMap Deciding) (f : Family) (lists : List (List ℕ)) (r : Bool) → hop ≡ At a → AreNextHopAnswers all hop m
     → r ≡ (same_family f a.family && list_any (permits_at m) lists) → r ≡ next_hop_holds all f lists hop
 next_hop_of_family all hop a m f lists r e h found =
     rw e (found ∙ some_of_family all (record { address = a; length = width a.family }) m f lists (subst (λ (x : NextHop). AreNextHopAnswers all x m) e h))

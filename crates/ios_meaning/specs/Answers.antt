@@ -1,10 +1,8 @@
 -- What the lists of a tree answer on one route, found in one walk over the tree.
 use Rattle.std.specs.Prelude.{◌≡◌, ℕ, Bool, true, false, ◌&&◌, nat_lt, List, [], ◌∷◌, Option, Some, None, bytes_eq, unwrap_or}
-use Rattle.std.specs.Borrow.{Bor}
 use Rattle.std.specs.Option.{option_map_or}
-use Rattle.std.specs.Ordering.{nat_cmp}
-use Rattle.std.specs.Cmp.Lexicographic.{slice_cmp}
-use Rattle.std.specs.BTreeMap.{BTreeMap, get_by}
+use Rattle.name_maps.specs.Under.{under, first_of}
+use Rattle.name_maps.specs.declared.map.NameMap.{NameMap}
 use Rattle.route_types.specs.Address.{PrefixParts, width, same_family}
 use Rattle.route_types.specs.declared.address.Family.{Family}
 use Rattle.route_types.specs.declared.community.Community.{Community}
@@ -21,6 +19,10 @@ use Rattle.ios_tree.specs.declared.item.IosItem.{IosItem}
 use Rattle.ios_meaning.specs.Lists.{prefix_list, community_list, test_of, path_list, path_answers}
 use Rattle.ios_meaning.specs.declared.prefix_answers.Deciding.{Deciding}
 use Rattle.ios_meaning.specs.declared.answers.Answers.{Answers}
+
+-- what a map holds under the name of a list
+abbrev pub held_at : {X : Type 0} → NameMap X → List ℕ → Option X
+held_at m list = under m.entries list
 
 -- ---- prefix lists
 
@@ -46,20 +48,11 @@ unfoldable pub decided_from : PrefixParts → List ℕ → Option Deciding → L
 decided_from p list found [] = found
 decided_from p list found (i ∷ is) = decided_from p list (decided_by p list i.form found) is
 
--- the entry that a map holds under the name of a list
-abbrev pub decided_at : BTreeMap (Bor (List ℕ)) Deciding → List ℕ → Option Deciding
-decided_at m list = get_by (λ k. slice_cmp nat_cmp list k.now) m
-
 -- the answer under the name of a list; where no entry decides it is no
-abbrev pub permits_at : BTreeMap (Bor (List ℕ)) Deciding → List ℕ → Bool
-permits_at m list = option_map_or (λ d. d.permit) (decided_at m list) false
+abbrev pub permits_at : NameMap Deciding → List ℕ → Bool
+permits_at m list = option_map_or (λ d. d.permit) (held_at m list) false
 
 -- ---- community lists
-
--- the first of two answers
-abbrev pub first_of : Option Bool → Bool → Option Bool
-first_of None b = Some b
-first_of (Some a) b = Some a
 
 -- the answer behind one more item, for the list of this name
 abbrev pub answered_by : Bool → List Community → List ℕ → IosForm → Option Bool → Option Bool
@@ -74,13 +67,9 @@ unfoldable pub answered_from : Bool → List Community → List ℕ → Option B
 answered_from exact cs list found [] = found
 answered_from exact cs list found (i ∷ is) = answered_from exact cs list (answered_by exact cs list i.form found) is
 
--- the answer that a map holds under the name of a list
-abbrev pub answered_at : BTreeMap (Bor (List ℕ)) Bool → List ℕ → Option Bool
-answered_at m list = get_by (λ k. slice_cmp nat_cmp list k.now) m
-
--- the same, where no entry holds it is no
-abbrev pub answers_at : BTreeMap (Bor (List ℕ)) Bool → List ℕ → Bool
-answers_at m list = unwrap_or (answered_at m list) false
+-- the answer under the name of a list; where no entry holds it is no
+abbrev pub answers_at : NameMap Bool → List ℕ → Bool
+answers_at m list = unwrap_or (held_at m list) false
 
 -- ---- path lists
 
@@ -100,20 +89,20 @@ path_answered_from path list found (i ∷ is) = path_answered_from path list (pa
 -- ---- all lists
 
 -- the map has the answers of the prefix lists on this prefix
-abbrev pub ArePrefixAnswers : List IosItem → PrefixParts → BTreeMap (Bor (List ℕ)) Deciding → Type 0
+abbrev pub ArePrefixAnswers : List IosItem → PrefixParts → NameMap Deciding → Type 0
 ArePrefixAnswers all p m = (family : Family) (list : List ℕ) → (same_family family p.address.family && permits_at m list) ≡ first_match (prefix_list family list all) p
 
 -- the map has their answers on this next hop
-abbrev pub AreNextHopAnswers : List IosItem → Hop → BTreeMap (Bor (List ℕ)) Deciding → Type 0
+abbrev pub AreNextHopAnswers : List IosItem → Hop → NameMap Deciding → Type 0
 AreNextHopAnswers all (At a) m = ArePrefixAnswers all (record { address = a; length = width a.family }) m
 AreNextHopAnswers all Own m = Unit {0}
 
 -- the map has the answers of the community lists on these communities
-abbrev pub AreCommunityAnswers : List IosItem → Bool → List Community → BTreeMap (Bor (List ℕ)) Bool → Type 0
+abbrev pub AreCommunityAnswers : List IosItem → Bool → List Community → NameMap Bool → Type 0
 AreCommunityAnswers all exact cs m = (list : List ℕ) → answers_at m list ≡ list_answers (community_list exact list all) cs
 
 -- the map has the answers of the path lists on this path
-abbrev pub ArePathAnswers : List IosItem → List ℕ → BTreeMap (Bor (List ℕ)) Bool → Type 0
+abbrev pub ArePathAnswers : List IosItem → List ℕ → NameMap Bool → Type 0
 ArePathAnswers all path m = (list : List ℕ) → answers_at m list ≡ path_answers (path_list list all) path
 
 -- the maps have the answers of the lists of the tree on the route

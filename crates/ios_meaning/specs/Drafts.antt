@@ -1,16 +1,13 @@
--- A route while the lines of entries change it: its path from the far end, its communities in any order.
+-- What the lines of entries make of the draft of a route.
 use Rattle.std.specs.Prelude.{ℕ, Bool, true, false, not, List, [], ◌∷◌, ◌++◌, Vec, map, filter, reverse, bytes_eq}
 use Rattle.std.specs.Borrow.{Bor}
 use Rattle.std.specs.Option.{option_map_or}
-use Rattle.std.specs.Ordering.{nat_cmp}
-use Rattle.std.specs.Cmp.Lexicographic.{slice_cmp}
-use Rattle.std.specs.BTreeMap.{BTreeMap, get_by}
+use Rattle.std.specs.BTreeMap.{BTreeMap}
 use Rattle.std.specs.declared.alloc.Global.{Global}
-use Rattle.route_types.specs.Address.{PrefixParts}
-use Rattle.route_types.specs.Community.{set_of}
-use Rattle.route_types.specs.Route.{RouteParts}
+use Rattle.name_maps.specs.Under.{under}
 use Rattle.route_types.specs.declared.community.Community.{Community}
 use Rattle.route_types.specs.declared.route.NextHop.TheVariants.{At}
+use Rattle.route_drafts.specs.declared.draft.Draft.{Draft}
 use Rattle.community_sets.specs.Tests.{test_holds}
 use Rattle.ios_reader.specs.Entries.{Entry}
 use Rattle.ios_tree.specs.declared.item.CommunityListEntry.{CommunityListEntry}
@@ -21,7 +18,6 @@ use Rattle.ios_tree.specs.declared.item.MapLine.{MapLine}
 use Rattle.ios_tree.specs.declared.item.MapLine.TheVariants.{SetLocalPreference, SetMetric, SetWeight, SetPrepend, SetOrigin, SetNextHop, SetCommunity, DeleteCommunities}
 use Rattle.ios_meaning.specs.Lists.{test_of}
 use Rattle.ios_meaning.specs.Meaning.{deletes}
-use Rattle.ios_meaning.specs.declared.draft.Draft.{Draft}
 use Rattle.ios_meaning.specs.declared.entries.MapEntry.{MapEntry}
 
 -- ---- entries and lists as the tree lends them
@@ -42,7 +38,7 @@ entries_named list (i ∷ is) = entry_named list i.form (entries_named list is)
 
 -- the entries that a map holds under the name of a list
 abbrev pub entries_at : BTreeMap (Bor (List ℕ)) (Vec (Bor CommunityListEntry) Global) → List ℕ → List CommunityListEntry
-entries_at m list = option_map_or (λ v. map (λ e. e.now) v.items) (get_by (λ k. slice_cmp nat_cmp list k.now) m) []
+entries_at m list = option_map_or (λ v. map (λ e. e.now) v.items) (under m list) []
 
 -- the answer of entries on a community alone
 abbrev pub answers_alone : List CommunityListEntry → Community → Bool
@@ -58,10 +54,6 @@ Removes = List ℕ → Community → Bool
 -- what the lists of a map take away
 abbrev pub removes_by : BTreeMap (Bor (List ℕ)) (Vec (Bor CommunityListEntry) Global) → Removes
 removes_by m list c = answers_alone (entries_at m list) c
-
--- the route that a draft makes
-abbrev pub route_of : PrefixParts → Draft → RouteParts
-route_of p d = record { prefix = p; next_hop = d.next_hop; path = reverse d.path; origin = d.origin; local_preference = d.local_preference; med = d.med; weight = d.weight; communities = set_of d.communities }
 
 -- a draft behind a line
 abbrev pub draft_by : Removes → MapLine → Draft → Draft

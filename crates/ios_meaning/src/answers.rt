@@ -9,20 +9,20 @@ use crate::community_answers::{answers, some_answers};
 use crate::path_answers::path_answers;
 use crate::prefix_answers::{Deciding, deciding_entries, same_family, some_permits};
 use ios_reader::{CommunityMatch, IosItem, MapLine, PathMatch, PrefixMatch};
+use name_maps::NameMap;
 use route_types::{Address, Family, Memory, NextHop, Prefix, Route};
 use std::alloc::Global;
-use std::collections::BTreeMap;
 
 /// What the lists of a tree answer on a route, each found once.
 #[derive(Drop)]
 pub struct Answers<'a> {
     pub items: &'a [IosItem],
     pub route: &'a Route,
-    pub prefix_lists: BTreeMap<&'a [u8], Deciding>,
-    pub next_hop_lists: BTreeMap<&'a [u8], Deciding>,
-    pub community_lists: BTreeMap<&'a [u8], bool>,
-    pub exact_lists: BTreeMap<&'a [u8], bool>,
-    pub path_lists: BTreeMap<&'a [u8], bool>,
+    pub prefix_lists: NameMap<'a, Deciding>,
+    pub next_hop_lists: NameMap<'a, Deciding>,
+    pub community_lists: NameMap<'a, bool>,
+    pub exact_lists: NameMap<'a, bool>,
+    pub path_lists: NameMap<'a, bool>,
 }
 
 // The answers of the prefix lists on the prefix of this address and length.
@@ -31,7 +31,7 @@ fn on_prefix<'a>(
     items: &'a [IosItem],
     address: &Address,
     length: u8,
-) -> Result<BTreeMap<&'a [u8], Deciding>, Memory>
+) -> Result<NameMap<'a, Deciding>, Memory>
     ensures { IfOk result (ArePrefixAnswers items.now (record { address = address.now; length = length })) }
 {
     let found = deciding_entries(alloc, items, address, length)?;
@@ -43,12 +43,12 @@ fn on_next_hop<'a>(
     alloc: Global,
     items: &'a [IosItem],
     next_hop: &NextHop,
-) -> Result<BTreeMap<&'a [u8], Deciding>, Memory>
+) -> Result<NameMap<'a, Deciding>, Memory>
     ensures { IfOk result (AreNextHopAnswers items.now next_hop.now) }
 {
     match next_hop {
         NextHop::At(address) => on_prefix(alloc, items, address, address.family.width()),
-        NextHop::Own => Ok(BTreeMap::new(alloc)),
+        NextHop::Own => Ok(NameMap::new(alloc)),
     }
 }
 
@@ -58,7 +58,7 @@ fn on_communities<'a>(
     items: &'a [IosItem],
     exact: bool,
     route: &Route,
-) -> Result<BTreeMap<&'a [u8], bool>, Memory>
+) -> Result<NameMap<'a, bool>, Memory>
     ensures { IfOk result (AreCommunityAnswers items.now exact route.now.communities) }
 {
     let found = answers(alloc, items, exact, route.communities())?;
@@ -70,7 +70,7 @@ fn on_path<'a>(
     alloc: Global,
     items: &'a [IosItem],
     route: &Route,
-) -> Result<BTreeMap<&'a [u8], bool>, Memory>
+) -> Result<NameMap<'a, bool>, Memory>
     ensures { IfOk result (ArePathAnswers items.now route.now.path) }
 {
     let found = path_answers(alloc, items, route.path())?;
@@ -105,11 +105,7 @@ pub fn answers_on<'a>(
 }
 
 // Whether some list that the line names answers yes on an address of the family.
-fn some_of_family<'a>(
-    found: &BTreeMap<&'a [u8], Deciding>,
-    line: &'a PrefixMatch,
-    family: Family,
-) -> bool
+fn some_of_family<'a>(found: &NameMap<'a, Deciding>, line: &'a PrefixMatch, family: Family) -> bool
     ensures { result ≡ (same_family line.now.family family && list_any (permits_at found.now) line.now.lists) }
 {
     same_family(line.family, family) && some_permits(found, line.lists.as_slice())

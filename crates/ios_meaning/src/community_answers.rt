@@ -1,17 +1,17 @@
 // What the community lists of a tree answer on the communities of a route.
-ghost use Rattle.std.specs.Prelude.{◌≡◌, ◌==◌, ℕ, List, true, false, None, IfOk, bytes_eq};
+ghost use Rattle.std.specs.Prelude.{◌≡◌, ◌==◌, ℕ, List, None, IfOk};
 ghost use Rattle.std.specs.List.{list_any, list_all};
 ghost use Rattle.std.specs.List.Sorted.{IsSortedByKey};
 ghost use Rattle.std.specs.Ordering.{nat_cmp};
 ghost use Rattle.route_types.specs.Community.{IsAscending, fits};
 ghost use Rattle.community_sets.specs.Tests.{test_holds, same_set};
 ghost use Rattle.ios_meaning.specs.Lists.{test_of};
-ghost use Rattle.ios_meaning.specs.Answers.{first_of, answered_from, answered_at, answers_at};
+ghost use Rattle.ios_meaning.specs.Answers.{answered_from, held_at, answers_at};
 
-use ios_reader::{CommunityListEntry, CommunityShape, IosForm, IosItem};
+use ios_reader::{CommunityShape, IosForm, IosItem};
+use name_maps::NameMap;
 use route_types::{Community, Memory, Rect, Row};
 use std::alloc::Global;
-use std::collections::BTreeMap;
 
 // Whether one of these communities, which are in order, is this one.
 fn is_member(ordered: &[Community], community: &Community) -> bool
@@ -71,21 +71,6 @@ fn holds(
     }
 }
 
-// Takes an entry that holds into account: the first one of its list has answered.
-fn add_holding<'a>(
-    found: &mut BTreeMap<&'a [u8], bool>,
-    entry: &'a CommunityListEntry,
-) -> Result<(), Memory>
-    ensures { IfOk result (λ _. (q : List ℕ) → answered_at found.new q ≡ elim (bytes_eq q entry.now.list) [ true ↦ first_of (answered_at found.old q) entry.now.permit | false ↦ answered_at found.old q ]) }
-{
-    let name = entry.list.as_slice();
-    if found.contains_key(&name) {
-        return Ok(());
-    }
-    found.insert(name, entry.permit)?;
-    Ok(())
-}
-
 /// For each list its answer on communities, which are in order; no answer where no entry holds.
 /// `exact` asks that a route has no other communities than an entry.
 #[tactic(auto, unfolding(crate::specs::Answers::answered_from))]
@@ -94,16 +79,16 @@ pub fn answers<'a>(
     items: &'a [IosItem],
     exact: bool,
     ordered: &[Community],
-) -> Result<BTreeMap<&'a [u8], bool>, Memory>
+) -> Result<NameMap<'a, bool>, Memory>
     requires { IsSortedByKey (λ c. c.0) nat_cmp ordered.now }
-    ensures { IfOk result (λ found. (q : List ℕ) → answered_at found q ≡ answered_from exact ordered.now q None items.now) }
+    ensures { IfOk result (λ found. (q : List ℕ) → held_at found q ≡ answered_from exact ordered.now q None items.now) }
 {
-    let mut found = BTreeMap::new(alloc);
+    let mut found = NameMap::new(alloc);
     let mut rest = items;
     while let [item, behind @ ..] = rest {
         if let IosForm::CommunityEntry(entry) = &item.form {
             if holds(alloc, &entry.shape, exact, ordered)? {
-                add_holding(&mut found, entry)?;
+                found.put_first(entry.list.as_slice(), entry.permit)?;
             }
         }
         rest = behind;
@@ -112,17 +97,14 @@ pub fn answers<'a>(
 }
 
 // The answer of the list of this name.
-fn answer<'a>(found: &BTreeMap<&'a [u8], bool>, name: &'a [u8]) -> bool
+fn answer<'a>(found: &NameMap<'a, bool>, name: &'a [u8]) -> bool
     ensures { result ≡ answers_at found.now name.now }
 {
-    match found.get(&name) {
-        Some(yes) => *yes,
-        None => false,
-    }
+    found.get(name).unwrap_or(false)
 }
 
 /// Whether some list of these names answers yes.
-pub fn some_answers<'a>(found: &BTreeMap<&'a [u8], bool>, lists: &'a [Row<u8>]) -> bool
+pub fn some_answers<'a>(found: &NameMap<'a, bool>, lists: &'a [Row<u8>]) -> bool
     ensures { result ≡ list_any (answers_at found.now) lists.now }
 {
     let mut rest = lists;

@@ -1,5 +1,6 @@
 //! The meaning of a checked IOS policy on a route, and `judge_ios`, which answers by it. It stands on
-//! `ios_reader`, `aspath_text`, `prefix_sets` and `community_sets`. Its definitions are in `specs/`:
+//! `ios_reader`, `aspath_text`, `prefix_sets` and `community_sets`, and collects its changes in a `route_drafts::Draft`.
+//! Its definitions are in `specs/`:
 //! `Order`, `Lists` and `Meaning` say what a policy means; `Answers`, `Drafts` and `Deletions` are what the walks
 //! of the code find, and `proofs/` has that this is the meaning.
 #![tactic(auto)]

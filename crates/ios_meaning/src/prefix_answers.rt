@@ -3,13 +3,13 @@ ghost use Rattle.std.specs.Prelude.{◌≡◌, ◌/◌, ◌^◌, ℕ, List, true
 ghost use Rattle.std.specs.List.{list_any};
 ghost use Rattle.route_types.specs.Address.{same_family};
 ghost use Rattle.prefix_sets.specs.Range.{in_range};
-ghost use Rattle.ios_meaning.specs.Answers.{comes_first, lower, decided_from, decided_at, permits_at};
+ghost use Rattle.ios_meaning.specs.Answers.{comes_first, lower, decided_from, held_at, permits_at};
 
 use ios_reader::{IosForm, IosItem, PrefixListEntry};
+use name_maps::NameMap;
 use prefix_sets::PrefixRange;
 use route_types::{Address, Family, Memory, Row};
 use std::alloc::Global;
-use std::collections::BTreeMap;
 
 /// Of the entries of a list that hold, the one of lowest number.
 #[derive(Clone, Copy)]
@@ -49,11 +49,10 @@ fn in_range(range: &PrefixRange, address: &Address, length: u8) -> bool
 }
 
 // Whether an entry that holds comes before the one of its list that decides so far.
-fn comes_first<'a>(found: &BTreeMap<&'a [u8], Deciding>, entry: &'a PrefixListEntry) -> bool
-    ensures { result ≡ comes_first entry.now (decided_at found.now entry.now.list) }
+fn comes_first<'a>(found: &NameMap<'a, Deciding>, entry: &'a PrefixListEntry) -> bool
+    ensures { result ≡ comes_first entry.now (held_at found.now entry.now.list) }
 {
-    let name = entry.list.as_slice();
-    match found.get(&name) {
+    match found.get(entry.list.as_slice()) {
         Some(deciding) => entry.number < deciding.number,
         None => true,
     }
@@ -61,20 +60,19 @@ fn comes_first<'a>(found: &BTreeMap<&'a [u8], Deciding>, entry: &'a PrefixListEn
 
 // Takes an entry that holds into account.
 fn add_holding<'a>(
-    found: &mut BTreeMap<&'a [u8], Deciding>,
+    found: &mut NameMap<'a, Deciding>,
     entry: &'a PrefixListEntry,
 ) -> Result<(), Memory>
-    ensures { IfOk result (λ _. (q : List ℕ) → decided_at found.new q ≡ elim (bytes_eq q entry.now.list) [ true ↦ lower entry.now (decided_at found.old q) | false ↦ decided_at found.old q ]) }
+    ensures { IfOk result (λ _. (q : List ℕ) → held_at found.new q ≡ elim (bytes_eq q entry.now.list) [ true ↦ lower entry.now (held_at found.old q) | false ↦ held_at found.old q ]) }
 {
     if !comes_first(found, entry) {
         return Ok(());
     }
-    let name = entry.list.as_slice();
     let deciding = Deciding {
         number: entry.number,
         permit: entry.entry.permit,
     };
-    found.insert(name, deciding)?;
+    found.put(entry.list.as_slice(), deciding)?;
     Ok(())
 }
 
@@ -85,10 +83,10 @@ pub fn deciding_entries<'a>(
     items: &'a [IosItem],
     address: &Address,
     length: u8,
-) -> Result<BTreeMap<&'a [u8], Deciding>, Memory>
-    ensures { IfOk result (λ found. (q : List ℕ) → decided_at found q ≡ decided_from (record { address = address.now; length = length }) q None items.now) }
+) -> Result<NameMap<'a, Deciding>, Memory>
+    ensures { IfOk result (λ found. (q : List ℕ) → held_at found q ≡ decided_from (record { address = address.now; length = length }) q None items.now) }
 {
-    let mut found = BTreeMap::new(alloc);
+    let mut found = NameMap::new(alloc);
     let mut rest = items;
     while let [item, behind @ ..] = rest {
         if let IosForm::PrefixEntry(entry) = &item.form {
@@ -102,17 +100,17 @@ pub fn deciding_entries<'a>(
 }
 
 // The answer of the list of this name; without an entry that holds it is no.
-fn permits<'a>(found: &BTreeMap<&'a [u8], Deciding>, name: &'a [u8]) -> bool
+fn permits<'a>(found: &NameMap<'a, Deciding>, name: &'a [u8]) -> bool
     ensures { result ≡ permits_at found.now name.now }
 {
-    match found.get(&name) {
+    match found.get(name) {
         Some(deciding) => deciding.permit,
         None => false,
     }
 }
 
 /// Whether some list of these names answers yes.
-pub fn some_permits<'a>(found: &BTreeMap<&'a [u8], Deciding>, lists: &'a [Row<u8>]) -> bool
+pub fn some_permits<'a>(found: &NameMap<'a, Deciding>, lists: &'a [Row<u8>]) -> bool
     ensures { result ≡ list_any (permits_at found.now) lists.now }
 {
     let mut rest = lists;

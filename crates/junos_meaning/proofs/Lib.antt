@@ -1,0 +1,8 @@
+mod MapLaws
+mod RegionLaws
+mod LongestLaws
+mod SetTests
+mod Acting
+mod CallLaws
+mod AnswerLaws
+mod Examples
