@@ -7,32 +7,15 @@ use Rattle.std.proofs.lemmas.List.Folds.{list_all-append}
 use Rattle.route_types.specs.Route.{RouteParts, InRange}
 use Rattle.core_nodes.specs.Atoms.{atom_holds}
 use Rattle.core_nodes.specs.declared.atom.Atom.{Atom}
-use Rattle.core_nodes.specs.declared.atom.PathEntry.{PathEntry}
 use Rattle.core_nodes.specs.declared.atom.PathList.{PathList}
 use Rattle.ios_tree.specs.declared.item.IosItem.{IosItem}
 use Rattle.ios_tree.specs.declared.item.MapLine.{MapLine}
-use Rattle.ios_tree.specs.declared.item.PathListEntry.{PathListEntry}
 use Rattle.ios_meaning.specs.Lists.{path_list}
 use Rattle.ios_meaning.specs.Meaning.{line_holds}
-use Rattle.ios_lower.specs.Atoms.{path_entry_of, path_list_of, atom_of, in_front, atoms_of}
+use Rattle.ios_lower.specs.Atoms.{path_list_of, atom_of, in_front, atoms_of}
 use Rattle.ios_lower.specs.AtomSteps.{IsMatched, holds_if, AtomsFound}
 
--- the entries that are left are made; if they are matched, all are
-pub record EntriesMade (all left : List PathListEntry) (found : List PathEntry) : Type 0 where
-  pub same : found ++ map path_entry_of left ≡ map path_entry_of all
-  pub matched : AllByRecursion IsMatched left → AllByRecursion IsMatched all
-
-pub entries_none : (all : List PathListEntry) → EntriesMade all all []
-entries_none all = record { same = refl; matched = λ h. h }
-
-pub entries_more : (all left : List PathListEntry) (e : PathListEntry) (found more : List PathEntry) → EntriesMade all (e ∷ left) found → IsMatched e → more ≡ found ++ path_entry_of e ∷ [] → EntriesMade all left more
-entries_more all left e found more w m k =
-    record {
-      same = ap (λ (xs : List PathEntry). xs ++ map path_entry_of left) k ∙ append_assoc found (path_entry_of e ∷ []) (map path_entry_of left) ∙ w.same;
-      matched = λ h. w.matched (m, h);
-    }
-
--- the same of the lists of a line
+-- the lists that are left are copied; if they are matched, all are
 pub record ListsMade (items : List IosItem) (all left : List (List ℕ)) (found : List PathList) : Type 0 where
   pub same : found ++ map (path_list_of items) left ≡ map (path_list_of items) all
   pub matched : AllByRecursion (λ list. AllByRecursion IsMatched (path_list list items)) left → AllByRecursion (λ list. AllByRecursion IsMatched (path_list list items)) all

@@ -10,6 +10,7 @@ use Rattle.route_types.specs.declared.route.Outcome.TheVariants.{Reject, Accept}
 use Rattle.aspath_text.specs.Items.{SomeOf}
 use Rattle.core_nodes.specs.Atoms.{atom_holds}
 use Rattle.core_nodes.specs.Made.{Keeps, IsMade}
+use Rattle.core_nodes.specs.Nodes.{AreNodes}
 use Rattle.core_nodes.specs.Outcome.{ended, outcome_at}
 use Rattle.core_nodes.specs.declared.atom.Atom.{Atom}
 use Rattle.core_nodes.specs.declared.node.NodeKind.{NodeKind}
@@ -31,6 +32,7 @@ use Rattle.ios_lower.specs.Runs.{given_by, entries_or}
 use Rattle.ios_lower.proofs.ChainLaws.{keeps_both, last_in, front_in}
 use Rattle.ios_lower.proofs.Grows.{all_wider, grows_one, grows_none, grows_both, grows_wider, all_grown}
 use Rattle.ios_lower.proofs.Runs.{first_decides, last_of}
+use Rattle.ios_lower.proofs.Said.{policy_said}
 
 -- ---- what nodes say
 
@@ -192,6 +194,7 @@ policy_means all name es nodes n c e t r h =
     t.answers r h ∙ ap (λ (xs : List Entry). entries_or all xs r Reject) e ∙ sym (first_decides all name r c)
 
 -- the node of a policy
-pub policy_node : (all : List IosItem) (name : List ℕ) (es : List Entry) (nodes : List NodeKind) (n : ℕ) → has_continue all name ≡ false → es ≡ in_order (λ e. e.number) (entries_of name all) → AreLowered all es [] nodes n → IsPolicyNode all name nodes n
-policy_node all name es nodes n c e t =
-    record { of_core = t.within; settled = t.settled; says = policy_says all name es nodes n e t; meaning = policy_means all name es nodes n c e t }
+pub policy_node : (all : List IosItem) (name : List ℕ) (es : List Entry) (nodes : List NodeKind) (n : ℕ) → has_continue all name ≡ false → es ≡ in_order (λ e. e.number) (entries_of name all) → AreLowered all es [] nodes n → AreNodes nodes → IsPolicyNode all name nodes n
+policy_node all name es nodes n c e t are =
+    let own = policy_says all name es nodes n e t in
+    record { of_core = t.within; settled = t.settled; says = own; said = policy_said all name nodes n are t.within own; meaning = policy_means all name es nodes n c e t }

@@ -1,6 +1,6 @@
 -- Tests as the code finds them, one entry, list and line after the other.
-use Rattle.std.specs.Prelude.{◌≡◌, ◌++◌, ◌&&◌, ℕ, Bool, true, List, Option, Some, None}
-use Rattle.std.specs.List.{list_all}
+use Rattle.std.specs.Prelude.{◌≡◌, ◌++◌, ◌&&◌, ℕ, Bool, true, List, Option, Some, None, map}
+use Rattle.std.specs.List.{list_all, AllByRecursion}
 use Rattle.route_types.specs.Route.{RouteParts, InRange}
 use Rattle.community_sets.specs.declared.list.CommEntry.{CommEntry}
 use Rattle.aspath_text.specs.Finds.{finds_in}
@@ -9,13 +9,16 @@ use Rattle.aspath_text.specs.PathMatches.{path_matches}
 use Rattle.aspath_text.specs.TokenForm.{token_form}
 use Rattle.core_nodes.specs.Atoms.{atom_holds}
 use Rattle.core_nodes.specs.declared.atom.Atom.{Atom}
+use Rattle.core_nodes.specs.declared.atom.PathEntry.{PathEntry}
 use Rattle.ios_tree.specs.declared.item.CommunityListEntry.{CommunityListEntry}
 use Rattle.ios_tree.specs.declared.item.PathListEntry.{PathListEntry}
+use Rattle.ios_tree.specs.declared.item.IosForm.{IosForm}
 use Rattle.ios_tree.specs.declared.item.IosItem.{IosItem}
 use Rattle.ios_tree.specs.declared.item.MapLine.{MapLine}
-use Rattle.ios_meaning.specs.Lists.{test_of}
+use Rattle.ios_meaning.specs.Lists.{test_of, path_entry_from}
 use Rattle.ios_meaning.specs.Meaning.{line_holds}
-use Rattle.ios_lower.specs.Atoms.{atoms_of}
+use Rattle.ios_lower.specs.Atoms.{path_entry_of, atoms_of}
+use Rattle.ios_lower.specs.Named.{Listed, under}
 
 -- an entry of a community list, for an exact match or not
 abbrev pub community_entry_of : Bool → CommunityListEntry → CommEntry
@@ -24,6 +27,11 @@ community_entry_of exact e = record { permit = e.permit; test = test_of exact e.
 -- the items of an entry's pattern match the paths in whose text it is found
 abbrev pub IsMatched : PathListEntry → Type 0
 IsMatched e = (path : List ℕ) → IsPath path → path_matches (token_form e.pattern) path ≡ finds_in e.pattern path
+
+-- an item is put behind those of its list, if it is an entry of a path list
+pub record AddsPath (form : IosForm) (old new : Listed PathEntry) : Type 0 where
+  pub same : (q : List ℕ) (rest : List PathListEntry) → under new q ++ map path_entry_of rest ≡ under old q ++ map path_entry_of (path_entry_from q form rest)
+  pub matched : (q : List ℕ) (rest : List PathListEntry) → AllByRecursion IsMatched rest → AllByRecursion IsMatched (path_entry_from q form rest)
 
 -- what is tested holds, if something is
 abbrev pub holds_if : Option Atom → RouteParts → Bool

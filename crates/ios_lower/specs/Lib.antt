@@ -1,6 +1,5 @@
 pub mod Grows
 pub mod Named
-pub mod Lists
 pub mod Deletions
 pub mod DeletionSteps
 pub mod Changes
@@ -9,6 +8,7 @@ pub mod Continues
 pub mod Runs
 pub mod Atoms
 pub mod AtomSteps
+pub mod Lists
 pub mod OfPolicy
 pub mod Chains
 pub mod Lowered

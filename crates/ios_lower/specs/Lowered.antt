@@ -1,18 +1,21 @@
 -- A graph while the entries of a route-map are put into it, from the last one on.
-use Rattle.std.specs.Prelude.{◌≡◌, ◌<◌, ℕ, List, [], ◌∷◌, length}
+use Rattle.std.specs.Prelude.{◌≡◌, ◌<◌, ℕ, Bool, true, List, [], ◌∷◌, length}
 use Rattle.std.specs.List.{AllByRecursion}
 use Rattle.route_types.specs.Route.{RouteParts, InRange}
 use Rattle.route_types.specs.declared.route.Outcome.TheVariants.{Reject}
 use Rattle.core_nodes.specs.Made.{Keeps}
 use Rattle.core_nodes.specs.Outcome.{outcome_at}
+use Rattle.core_nodes.specs.declared.atom.Atom.{Atom}
 use Rattle.core_nodes.specs.declared.node.NodeKind.{NodeKind}
+use Rattle.route_types.specs.declared.change.Change.{Change}
+use Rattle.policy_core.specs.Guards.{said_at}
 use Rattle.policy_core.specs.Settled.{IsSettled}
 use Rattle.ios_tree.specs.declared.item.IosItem.{IosItem}
 use Rattle.ios_reader.specs.Entries.{Entry}
 use Rattle.ios_meaning.specs.Meaning.{ios_meaning}
 use Rattle.ios_lower.specs.ChangeSteps.{HasCommunities}
 use Rattle.ios_lower.specs.Grows.{Grows}
-use Rattle.ios_lower.specs.OfPolicy.{IsOfEntries, IsOfPolicy}
+use Rattle.ios_lower.specs.OfPolicy.{IsOfEntries, IsOfPolicy, PolicySays}
 use Rattle.ios_lower.specs.Runs.{given_by, entry_or, entries_or}
 
 -- a node gives what an entry gives the routes for which it holds
@@ -43,4 +46,5 @@ pub record IsPolicyNode (all : List IosItem) (name : List ℕ) (nodes : List Nod
   pub of_core : n < length nodes
   pub settled : IsSettled nodes n
   pub says : AllByRecursion (IsOfPolicy all name) nodes
+  pub said : (on_atom : Atom → Bool) (on_change : Change → Bool) → PolicySays on_atom on_change all name → said_at on_atom on_change nodes n ≡ true
   pub meaning : (r : RouteParts) → InRange r → outcome_at nodes n r ≡ ios_meaning all name r

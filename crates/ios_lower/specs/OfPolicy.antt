@@ -1,5 +1,5 @@
 -- The atoms and changes of a policy: those that its tests and actions give.
-use Rattle.std.specs.Prelude.{◌≡◌, ℕ, List, Some}
+use Rattle.std.specs.Prelude.{◌≡◌, ℕ, Bool, true, List, Some}
 use Rattle.route_types.specs.declared.change.Change.{Change}
 use Rattle.aspath_text.specs.Items.{SomeOf}
 use Rattle.core_nodes.specs.declared.atom.Atom.{Atom}
@@ -27,3 +27,8 @@ IsOfEntries all es (Stop accept) = Unit {0}
 -- a node tests and changes what the route-map of this name does
 abbrev pub IsOfPolicy : List IosItem → List ℕ → NodeKind → Type 0
 IsOfPolicy all name k = IsOfEntries all (entries_of name all) k
+
+-- each test and each change of the route-map of this name passes
+pub record PolicySays (on_atom : Atom → Bool) (on_change : Change → Bool) (all : List IosItem) (name : List ℕ) : Type 0 where
+  pub tests : (a : Atom) → IsTested all (entries_of name all) a → on_atom a ≡ true
+  pub sets : (c : Change) → IsSet all (entries_of name all) c → on_change c ≡ true

@@ -7,23 +7,21 @@ ghost use Rattle.core_nodes.specs.Atoms.{atom_holds};
 ghost use Rattle.ios_meaning.specs.Meaning.{line_holds};
 ghost use Rattle.ios_meaning.specs.Lists.{single, prefix_list, test_of, community_list, path_list};
 ghost use Rattle.ios_tree.specs.declared.item.MapLine.{MapLine as Line};
-ghost use Rattle.ios_lower.specs.Named.{entries_under};
+ghost use Rattle.ios_lower.specs.Named.{under, entries_under};
 ghost use Rattle.ios_lower.specs.Lists.{AreLists};
-ghost use Rattle.ios_lower.specs.Atoms.{prefix_list_of, community_list_of, path_entry_of, path_list_of, atom_of, atoms_of};
+ghost use Rattle.ios_lower.specs.Atoms.{prefix_list_of, community_list_of, path_list_of, atom_of, atoms_of};
 ghost use Rattle.ios_lower.specs.AtomSteps.{community_entry_of, IsMatched, holds_if, AtomsFound};
 
 use crate::deletion::single;
 use crate::lists::Lists;
-use crate::named::Named;
-use aspath_text::tokens;
+use crate::named::{Listed, Named};
 use community_sets::{CommEntry, CommList, CommTest};
 use ios_reader::{
-    CommunityListEntry, CommunityMatch, CommunityShape, MapLine, PathListEntry, PathMatch,
-    PrefixMatch,
+    CommunityListEntry, CommunityMatch, CommunityShape, MapLine, PathMatch, PrefixMatch,
 };
 use policy_core::{Atom, PathEntry, PathList};
 use prefix_sets::{PrefixEntry, PrefixList};
-use route_types::{Community, Family, Memory, Rect, Row};
+use route_types::{Community, Duplicate, Family, Memory, Rect, Row};
 use std::alloc::Global;
 
 // ---- prefix lists
@@ -215,42 +213,28 @@ fn community_lists<'a>(
 
 // ---- path lists
 
-fn path_entries(alloc: Global, entries: &[&PathListEntry]) -> Result<Row<PathEntry>, Memory>
-    ensures same { IfOk result (λ es. es ≡ map path_entry_of (map (λ e. e.now) entries.now)) }
-    ensures matched { IfOk result (λ es. AllByRecursion IsMatched (map (λ e. e.now) entries.now)) }
+fn copied_paths(alloc: Global, entries: &[PathEntry]) -> Result<PathList, Memory>
+    ensures { IfOk result (λ l. l ≡ record { entries = entries.now }) }
 {
-    let mut found = Row::new(alloc);
+    let mut copies = Row::new(alloc);
     let mut rest = entries;
     while let [first, behind @ ..] = rest {
-        let pattern = tokens(alloc, &first.pattern)?;
-        found.push(PathEntry {
-            permit: first.permit,
-            pattern,
-        })?;
+        copies.push(first.duplicate(alloc)?)?;
         rest = behind;
     }
-    Ok(found)
-}
-
-fn listed_paths(alloc: Global, entries: &[&PathListEntry]) -> Result<PathList, Memory>
-    ensures same { IfOk result (λ l. l ≡ record { entries = map path_entry_of (map (λ e. e.now) entries.now) }) }
-    ensures matched { IfOk result (λ l. AllByRecursion IsMatched (map (λ e. e.now) entries.now)) }
-{
-    let entries = path_entries(alloc, entries)?;
-    Ok(PathList { entries })
+    Ok(PathList { entries: copies })
 }
 
 fn path_list_in<'a>(
     alloc: Global,
-    lists: &Named<'a, PathListEntry>,
+    lists: &Listed<'a, PathEntry>,
     name: &'a [u8],
 ) -> Result<PathList, Memory>
-    ensures same { IfOk result (λ l. l ≡ record { entries = map path_entry_of (entries_under lists.now name.now) }) }
-    ensures matched { IfOk result (λ l. AllByRecursion IsMatched (entries_under lists.now name.now)) }
+    ensures { IfOk result (λ l. l ≡ record { entries = under lists.now name.now }) }
 {
     match lists.get(&name) {
-        Some(entries) => listed_paths(alloc, entries.as_slice()),
-        None => listed_paths(alloc, &[]),
+        Some(entries) => copied_paths(alloc, entries.as_slice()),
+        None => copied_paths(alloc, &[]),
     }
 }
 

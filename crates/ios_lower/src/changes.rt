@@ -5,16 +5,15 @@ ghost use Rattle.ios_meaning.specs.Meaning.{deletes};
 ghost use Rattle.ios_meaning.specs.Drafts.{deletes_as};
 ghost use Rattle.ios_tree.specs.declared.item.IosItem.{IosItem};
 ghost use Rattle.ios_tree.specs.declared.item.MapLine.{MapLine as Line};
-ghost use Rattle.ios_lower.specs.Named.{entries_under};
-ghost use Rattle.ios_lower.specs.Deletions.{every, AreTaken};
+ghost use Rattle.ios_lower.specs.Deletions.{every};
 ghost use Rattle.ios_lower.specs.Changes.{setting_change, changes_of, Deletes};
 ghost use Rattle.ios_lower.specs.ChangeSteps.{AreSmall, IsSmall, AreOfLine, AreBefore, AreOfEntry};
 ghost use Rattle.ios_lower.specs.Lists.{AreLists};
 
-use crate::deletion::{every, taken_away};
+use crate::deletion::every;
 use crate::lists::Lists;
-use crate::named::Named;
-use ios_reader::{CommunityListEntry, CommunitySetting, MapLine};
+use crate::taken::taken_by;
+use ios_reader::{CommunitySetting, MapLine};
 use route_types::{Change, CommChange, Community, Memory, NextHop, Rect, Row};
 use std::alloc::Global;
 
@@ -119,30 +118,14 @@ fn plain_changes(alloc: Global, line: &MapLine) -> Result<Vec<Change>, Memory>
     }
 }
 
-// What the entries under a name take away.
-fn taken_by<'a>(
-    alloc: Global,
-    lists: &Named<'a, CommunityListEntry>,
-    name: &'a [u8],
-) -> Result<Vec<Rect>, Memory>
-    ensures { IfOk result (λ rects. AreTaken (entries_under lists.now name.now) rects.items) }
-{
-    match lists.get(&name) {
-        Some(entries) => taken_away(alloc, entries.as_slice()),
-        None => taken_away(alloc, &[]),
-    }
-}
-
 // The change that deletes what the list of this name answers yes on.
 fn deletion<'a>(alloc: Global, lists: &Lists<'a>, list: &'a [u8]) -> Result<Change, Memory>
     requires { AreLists lists.now }
     ensures { IfOk result (Deletes lists.now.items.now list.now) }
 {
-    let removed = taken_by(alloc, &lists.of_communities, list)?;
-    Ok(Change::Communities(CommChange {
-        removed: Row::from_vec(removed),
-        added: Row::new(alloc),
-    }))
+    let removed = taken_by(alloc, &lists.of_communities, &lists.taken, list)?;
+    let added = Row::new(alloc);
+    Ok(Change::Communities(CommChange { removed, added }))
 }
 
 fn deletion_changes<'a>(

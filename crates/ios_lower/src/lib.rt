@@ -13,6 +13,7 @@ mod lists;
 mod lower;
 mod named;
 mod prefix_lists;
+mod taken;
 
 pub use continues::has_continue;
 pub use lower::lower_ios;

@@ -1,16 +1,19 @@
 //! IOS policies as nodes of the shared graph.
 
-ghost use Rattle.std.specs.Prelude.{◌≡◌, ◌<◌, [], true, false, length, IfOk, map};
+ghost use Rattle.std.specs.Prelude.{◌≡◌, ◌<◌, [], Bool, true, false, length, IfOk, map};
 ghost use Rattle.std.specs.List.{AllByRecursion};
 ghost use Rattle.route_types.specs.Route.{RouteParts, InRange};
 ghost use Rattle.core_nodes.specs.Outcome.{outcome_at};
+ghost use Rattle.core_nodes.specs.declared.atom.Atom.{Atom};
+ghost use Rattle.route_types.specs.declared.change.Change.{Change};
+ghost use Rattle.policy_core.specs.Guards.{said_at};
 ghost use Rattle.policy_core.specs.Settled.{IsSettled};
 ghost use Rattle.ios_meaning.specs.Drafts.{entry_of};
 ghost use Rattle.ios_meaning.specs.Meaning.{ios_meaning, name_of};
 ghost use Rattle.ios_lower.specs.Continues.{has_continue};
 ghost use Rattle.ios_lower.specs.Lists.{AreLists};
 ghost use Rattle.ios_lower.specs.Lowered.{IsBody, IsEntry, AreLowered, IsPolicyNode};
-ghost use Rattle.ios_lower.specs.OfPolicy.{IsOfPolicy};
+ghost use Rattle.ios_lower.specs.OfPolicy.{IsOfPolicy, PolicySays};
 
 use crate::atoms::atoms_of;
 use crate::chains::{act_all, test_all};
@@ -35,6 +38,8 @@ pub fn lower_ios(alloc: Global, policy: &CheckedIos) -> Result<(Core, Node), Mem
     ensures settled { IfOk result (λ p. IsSettled p.0 p.1) }
     // Each node tests and changes what the policy does.
     ensures says { IfOk result (λ p. AllByRecursion (IsOfPolicy policy.now.items (name_of policy.now)) p.0) }
+    // What all tests and changes of the policy pass, those from the node on pass, as `steps` hands on.
+    ensures said { IfOk result (λ p. (on_atom : Atom → Bool) (on_change : Change → Bool) → PolicySays on_atom on_change policy.now.items (name_of policy.now) → said_at on_atom on_change p.0 p.1 ≡ true) }
     // The node gives each route the policy's outcome.
     ensures meaning { IfOk result (λ p. (r : RouteParts) → InRange r → outcome_at p.0 p.1 r ≡ ios_meaning policy.now.items (name_of policy.now) r) }
 {
@@ -59,8 +64,9 @@ fn lower_named<'a>(
     ensures { IfOk result (IsPolicyNode items.now name.now core.new) }
 {
     let entries = ordered_entries(alloc, name, items)?;
-    let lists = lists_of(alloc, items)?;
+    let lists = lists_of(alloc, items, entries.as_slice())?;
     let node = lower_entries(alloc, core, &lists, entries)?;
+    let _ = core.count();
     Ok(node)
 }
 

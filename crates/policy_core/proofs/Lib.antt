@@ -2,5 +2,6 @@ pub mod FoldLaws
 pub mod SettledLaws
 pub mod ListedLaws
 pub mod StepLaws
+pub mod SaidLaws
 pub mod WaitingLaws
 mod Examples

@@ -11,7 +11,7 @@ use Rattle.policy_core.specs.declared.step.Step.{Step}
 use Rattle.policy_core.specs.declared.listing.Waiting.{Waiting}
 use Rattle.policy_core.specs.Settled.{IsSettled}
 use Rattle.policy_core.specs.Steps.{under, is_end, first_part, unless_end, listed_at, steps_at}
-use Rattle.policy_core.specs.Waiting.{guarded, wants, steps_of, coming, MayWait, AllMayWait, work, Takes, TakesFirst}
+use Rattle.policy_core.specs.Waiting.{guarded, wants, steps_of, coming, MayWait, AllMayWait, work, Leaves, Takes, TakesFirst}
 use Rattle.policy_core.proofs.FoldLaws.{Stands}
 use Rattle.policy_core.proofs.ListedLaws.{alone_at, test_upto, do_upto, stop_upto, guarded_none, guarded_under, guarded_append}
 
@@ -105,14 +105,30 @@ module _ (nodes : List NodeKind) (ws : List Waiting) (all : AllMayWait nodes ws)
         ∙ ap (λ (xs : List Step). xs ++ coming nodes ws) (sym (guarded_append w.guard (map (under a) first) later) ∙ ap (map (guarded w.guard)) (sym (test_upto nodes w.place t o a w.end at)))
 
     -- it is a test: its two children are taken, `no` behind
-    pub test_takes : (a : Atom) (t o : ℕ) (front found : List Step) (after : List Waiting) → is_end w.end w.place ≡ false → Stands nodes w.place (Test a t o) → t < w.place → o < w.place
-        → TakesFirst nodes t o (w.guard ++ wants a ∷ []) (waits o w.end w.guard ∷ ws) front after found → Takes nodes w ws front after found
-    unfolding coming work
-    test_takes a t o front found after e at x y first = record {
-      steps = first.steps ∙ ap (λ (xs : List Step). front ++ xs) (test_steps a t o at) ∙ ap (tops front) (sym e);
+    pub test_takes : (a : Atom) (t o : ℕ) (front found : List Step) (left after : List Waiting) → is_end w.end w.place ≡ false → Stands nodes w.place (Test a t o) → t < w.place → o < w.place
+        → Leaves w.end w.guard o ws left → TakesFirst nodes t o (w.guard ++ wants a ∷ []) left front after found → Takes nodes w ws front after found
+    test_takes a t o front found left after e at x y leaves first = record {
+      steps = first.steps
+          ∙ ap (λ (xs : List Step). front ++ (map (guarded (w.guard ++ wants a ∷ [])) (first_part (listed_at nodes t) t o) ++ xs)) (leaves.steps nodes)
+          ∙ ap (λ (xs : List Step). front ++ xs) (test_steps a t o at) ∙ ap (tops front) (sym e);
       may = first.may;
-      less = let h = less_work w.place t o x y in let l = first.less in omega (arith, h, l);
+      less = let h = less_work w.place t o x y in let l = first.less in let m = leaves.less in omega (arith, h, l, m);
     }
+
+-- ---- the child `no`
+
+-- it waits
+pub no_waits : (end : Option ℕ) (guard : List Literal) (o : ℕ) (before after : List Waiting) → after ≡ waits o end guard ∷ before → Leaves end guard o before after
+unfolding coming AllMayWait work
+no_waits end guard o before after e = subst (λ ws. Leaves end guard o before ws) (sym e) (record { steps = λ nodes. refl; may = λ nodes h k. (h, k); less = omega arith })
+
+-- it is the end
+pub no_ends : (end : Option ℕ) (guard : List Literal) (o : ℕ) (before : List Waiting) → is_end end o ≡ true → Leaves end guard o before before
+no_ends end guard o before e = record {
+  steps = λ nodes. ap (λ (b : Bool). map (guarded guard) (elim b [ true ↦ [] | false ↦ (listed_at nodes o).upto end ]) ++ coming nodes before) (sym e);
+  may = λ nodes h k. k;
+  less = omega arith;
+}
 
 -- ---- the whole
 

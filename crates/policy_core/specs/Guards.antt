@@ -47,3 +47,9 @@ said_by on_atom on_change child (Stop accept) = true
 
 abbrev pub said_at : (Atom → Bool) → (Change → Bool) → List NodeKind → ℕ → Bool
 said_at on_atom on_change nodes p = fold_at true (said_by on_atom on_change) nodes p
+
+-- the node's own test or change passes
+abbrev pub says_own : (Atom → Bool) → (Change → Bool) → NodeKind → Bool
+says_own on_atom on_change (Test a met unmet) = on_atom a
+says_own on_atom on_change (Do c next) = on_change c
+says_own on_atom on_change (Stop accept) = true

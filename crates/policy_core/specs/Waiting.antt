@@ -1,5 +1,5 @@
 -- The steps that are still to come, as the code keeps them: nodes that wait, each with its guard and its end.
-use Rattle.std.specs.Prelude.{◌≡◌, ℕ, ◌<◌, ◌≤◌, ◌+◌, ◌^◌, Bool, true, false, List, [], ◌∷◌, ◌++◌, map, length}
+use Rattle.std.specs.Prelude.{◌≡◌, ℕ, ◌<◌, ◌≤◌, ◌+◌, ◌^◌, Bool, true, false, List, [], ◌∷◌, ◌++◌, map, length, Option}
 use Rattle.core_nodes.specs.declared.atom.Atom.{Atom}
 use Rattle.core_nodes.specs.declared.node.NodeKind.{NodeKind}
 use Rattle.core_nodes.specs.declared.node.NodeKind.TheVariants.{Test, Do, Stop}
@@ -46,6 +46,12 @@ AllMayWait nodes (w ∷ ws) = MayWait nodes w.place × AllMayWait nodes ws
 unfoldable pub work : List Waiting → ℕ
 work [] = 0
 work (w ∷ ws) = 3 ^ w.place + work ws
+
+-- the child `no` of a test waits, up to an end and under a guard, but where it is the end
+pub record Leaves (end : Option ℕ) (guard : List Literal) (unmet : ℕ) (before after : List Waiting) : Type 0 where
+  pub steps : (nodes : List NodeKind) → coming nodes after ≡ steps_of nodes (record { place = unmet; end = end; guard = guard }) ++ coming nodes before
+  pub may : (nodes : List NodeKind) → MayWait nodes unmet → AllMayWait nodes before → AllMayWait nodes after
+  pub less : work after ≤ 3 ^ unmet + work before
 
 -- the node on top is taken: its steps are found, or those of what waits now, and less is to be done
 pub record Takes (nodes : List NodeKind) (w : Waiting) (before : List Waiting) (found_before : List Step) (after : List Waiting) (found : List Step) : Type 0 where

@@ -10,6 +10,6 @@ mod listing;
 mod step;
 
 pub use core_nodes::{Atom, Core, Node, NodeKind, PathEntry, PathList, atom_holds};
-pub use laws::new_nodes_are_settled;
+pub use laws::{all_nodes_say, new_nodes_are_settled};
 pub use listing::steps;
 pub use step::{Literal, Step};

@@ -8,7 +8,7 @@ ghost use Rattle.core_nodes.specs.declared.atom.Atom.{Atom};
 ghost use Rattle.policy_core.specs.Settled.{IsUntested, IsSettled};
 ghost use Rattle.policy_core.specs.Steps.{is_end, listed_at, steps_at};
 ghost use Rattle.policy_core.specs.Guards.{outcome_of, IsClosed, step_says, said_at};
-ghost use Rattle.policy_core.specs.Waiting.{guarded, wants, is_test, MayWait, AllMayWait, Takes, TakesFirst};
+ghost use Rattle.policy_core.specs.Waiting.{guarded, wants, is_test, MayWait, AllMayWait, Leaves, Takes, TakesFirst};
 
 use crate::step::{Literal, Step};
 use core_nodes::{Atom, Core, Node, NodeKind};
@@ -32,16 +32,6 @@ fn is_end(end: Option<usize>, place: usize) -> bool
         None => false,
         Some(node) => place == node,
     }
-}
-
-// The guard with one literal more: the test has to hold.
-fn with_literal(alloc: Global, guard: &Row<Literal>, atom: &Atom) -> Result<Row<Literal>, Memory>
-    ensures { IfOk result (λ longer. longer ≡ guard.now ++ wants atom.now ∷ []) }
-{
-    let mut longer = guard.duplicate(alloc)?;
-    let atom = atom.duplicate(alloc)?;
-    longer.push(Literal { atom, wanted: true })?;
-    Ok(longer)
 }
 
 fn is_test(kind: &NodeKind) -> bool
@@ -135,6 +125,45 @@ fn take_first(
     Ok(())
 }
 
+// The guard of the child `yes` of a test that waits. The child `no` waits, with a copy of the test's guard, but where
+// it is the end and so has no step.
+fn leave(
+    alloc: Global,
+    waiting: &mut Stack<Waiting>,
+    next: Waiting,
+    atom: &Atom,
+    no: usize,
+) -> Result<Row<Literal>, Memory>
+    ensures guard { IfOk result (λ guard. guard ≡ next.guard ++ wants atom.now ∷ []) }
+    ensures left { IfOk result (λ _. Leaves next.end next.guard no waiting.old waiting.new) }
+{
+    leave_no(alloc, waiting, &next, no)?;
+    let mut guard = next.guard;
+    let atom = atom.duplicate(alloc)?;
+    guard.push(Literal { atom, wanted: true })?;
+    Ok(guard)
+}
+
+fn leave_no(
+    alloc: Global,
+    waiting: &mut Stack<Waiting>,
+    next: &Waiting,
+    no: usize,
+) -> Result<(), Memory>
+    ensures { IfOk result (λ _. Leaves next.now.end next.now.guard no waiting.old waiting.new) }
+{
+    if is_end(next.end, no) {
+        return Ok(());
+    }
+    let guard = next.guard.duplicate(alloc)?;
+    waiting.push(Waiting {
+        place: no,
+        end: next.end,
+        guard,
+    })?;
+    Ok(())
+}
+
 // The steps of a node that waits, or the nodes that it leads to.
 fn take(
     alloc: Global,
@@ -152,12 +181,7 @@ fn take(
     }
     match core.kind(next.place) {
         NodeKind::Test { atom, yes, no } => {
-            let guard = with_literal(alloc, &next.guard, atom)?;
-            waiting.push(Waiting {
-                place: no.place(),
-                end: next.end,
-                guard: next.guard,
-            })?;
+            let guard = leave(alloc, waiting, next, atom, no.place())?;
             take_first(alloc, core, found, waiting, yes.place(), no.place(), guard)?;
             Ok(())
         }

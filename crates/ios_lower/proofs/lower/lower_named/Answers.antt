@@ -10,3 +10,4 @@ pub returns : goal.returns
 returns c =
     policy_node c.args.items.now c.args.name.now (map entry_of c.in_ok-entries.entries.items) c.lower_entries.new.core c.in_ok-node.node c.requires.ends c.in_ok-entries.ensures
     (subst (λ (all : List IosItem). AreLowered all (map entry_of c.in_ok-entries.entries.items) [] c.lower_entries.new.core c.in_ok-node.node) c.in_ok-lists.ensures.items c.in_ok-node.ensures)
+    c.count.ensures.facts

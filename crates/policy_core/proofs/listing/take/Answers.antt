@@ -1,12 +1,12 @@
-use Rattle.std.proofs.Common.{◌≡◌, ◌∙◌, ◌<◌, ◌++◌, ◌∷◌, [], ap, sym, subst, arith, Some}
+use Rattle.std.proofs.Common.{◌≡◌, ◌∙◌, ◌<◌, ap, sym, subst, arith, Some}
 use Rattle.std.specs.List.{AllByRecursion}
 use Rattle.core_nodes.specs.Nodes.{children}
 use Rattle.core_nodes.specs.declared.node.NodeKind.TheVariants.{Test, Do, Stop}
-use Rattle.policy_core.specs.Waiting.{wants, MayWait, AllMayWait, TakesFirst}
+use Rattle.policy_core.specs.Waiting.{MayWait, Leaves, TakesFirst}
 use Rattle.policy_core.proofs.FoldLaws.{Stands}
 use Rattle.policy_core.proofs.SettledLaws.{settled_parts}
 use Rattle.policy_core.proofs.ListedLaws.{do_upto, stop_upto}
-use Rattle.policy_core.proofs.WaitingLaws.{waits, ended_takes, alone_takes, test_takes}
+use Rattle.policy_core.proofs.WaitingLaws.{ended_takes, alone_takes, test_takes}
 use Rattle.policy_core.proofs.listing.take.Goals as goal
 
 pub returns-then-is_end : goal.returns-then-is_end
@@ -20,30 +20,28 @@ take_first-requires-clause-first c =
     subst (λ p. MayWait c.args.core.now p) (sym c.place-in-Test.ensures) (record { within = omega (arith, before.0, c.requires.next.within); settled = parts.0 })
 
 pub take_first-requires-clause-others : goal.take_first-requires-clause-others
-unfolding AllMayWait
 take_first-requires-clause-others c =
     let at : Stands c.args.core.now c.args.next.place (Test c.in-Test.atom c.in-Test.yes c.in-Test.no) = record { facts = c.kind.ensures.facts; there = c.kind.ensures.at.there ∙ ap Some c.in-Test.is } in
     let before = subst (λ k. AllByRecursion (λ child. child < c.args.next.place) (children k)) c.in-Test.is c.kind.ensures.at.before in
     let parts = settled_parts c.args.core.now c.args.next.place c.in-Test.yes c.in-Test.no c.in-Test.atom at c.requires.next.settled in
     let later = subst (λ p. MayWait c.args.core.now p) (sym c.place.ensures) (record { within = omega (arith, before.1.0, c.requires.next.within); settled = parts.1 }) in
-    subst (λ ws. AllMayWait c.args.core.now ws) (sym c.in_ok-push-in-Test.ensures) (later, c.requires.others)
+    c.in_ok-guard-in-Test.ensures.left.may c.args.core.now later c.requires.others
 
 pub returns-in_ok-take_first-in-Test : goal.returns-in_ok-take_first-in-Test
 returns-in_ok-take_first-in-Test c =
     let core = c.args.core.now in
     let front = c.args.found.now in
+    let left = c.leave.new.waiting in
     let after = c.take_first.new.waiting in
     let found = c.take_first.new.found in
     let at : Stands core c.args.next.place (Test c.in-Test.atom c.in-Test.yes c.in-Test.no) = record { facts = c.kind.ensures.facts; there = c.kind.ensures.at.there ∙ ap Some c.in-Test.is } in
     let before = subst (λ k. AllByRecursion (λ child. child < c.args.next.place) (children k)) c.in-Test.is c.kind.ensures.at.before in
-    let pushed : c.push.new.self ≡ waits c.in-Test.no c.args.next.end c.args.next.guard ∷ c.args.waiting.now =
-    c.in_ok-push-in-Test.ensures ∙ ap (λ p. waits p c.args.next.end c.args.next.guard ∷ c.args.waiting.now) c.place.ensures in
+    let leaves = subst (λ p. Leaves c.args.next.end c.args.next.guard p c.args.waiting.now left) c.place.ensures c.in_ok-guard-in-Test.ensures.left in
     let first = c.in_ok-take_first-in-Test.ensures in
-    let one = subst (λ p. TakesFirst core p c.place-in-Test-2.result c.in_ok-guard-in-Test.guard c.push.new.self front after found) c.place-in-Test.ensures first in
-    let two = subst (λ p. TakesFirst core c.in-Test.yes p c.in_ok-guard-in-Test.guard c.push.new.self front after found) c.place-in-Test-2.ensures one in
-    let three = subst (λ g. TakesFirst core c.in-Test.yes c.in-Test.no g c.push.new.self front after found) c.in_ok-guard-in-Test.ensures two in
-    let four = subst (λ ws. TakesFirst core c.in-Test.yes c.in-Test.no (c.args.next.guard ++ wants c.in-Test.atom ∷ []) ws front after found) pushed three in
-    test_takes core c.args.waiting.now c.requires.others c.args.next c.in-Test.atom c.in-Test.yes c.in-Test.no front found after (sym c.is_end.ensures ∙ c.if-is_end.false) at before.0 before.1.0 four
+    let one = subst (λ p. TakesFirst core p c.place-in-Test-2.result c.in_ok-guard-in-Test.guard left front after found) c.place-in-Test.ensures first in
+    let two = subst (λ p. TakesFirst core c.in-Test.yes p c.in_ok-guard-in-Test.guard left front after found) c.place-in-Test-2.ensures one in
+    let three = subst (λ g. TakesFirst core c.in-Test.yes c.in-Test.no g left front after found) c.in_ok-guard-in-Test.ensures.guard two in
+    test_takes core c.args.waiting.now c.requires.others c.args.next c.in-Test.atom c.in-Test.yes c.in-Test.no front found left after (sym c.is_end.ensures ∙ c.if-is_end.false) at before.0 before.1.0 leaves three
 
 pub returns-in_ok-push_alone-in-Do : goal.returns-in_ok-push_alone-in-Do
 returns-in_ok-push_alone-in-Do c =
