@@ -4,13 +4,15 @@ use crate::places::place;
 use junos_tree::read_junos;
 use std::alloc::{AllocGlobal, Global};
 use std::process::Abort;
+use std::str;
 use std::test::Fail;
 use text_words::{BrokenKind, TextFault};
 
 /// What is to be found: the line, the column and the kind; none where the text is read.
-type Want = Option<(u64, u64, BrokenKind)>;
+pub type Want = Option<(u64, u64, BrokenKind)>;
 
-fn fault(alloc: Global, text: &str) -> Result<Want, Fail> {
+/// What is found.
+pub fn fault(alloc: Global, text: &str) -> Result<Want, Fail> {
     match read_junos(alloc, text.as_bytes()) {
         Ok(_) => Ok(None),
         Err(TextFault::Broken { span, kind }) => {
@@ -101,6 +103,46 @@ policy-options {
     }
 }
 ";
+
+/// The first so many lines of a text.
+fn first_lines(text: &str, count: u64) -> &[u8] {
+    let bytes = text.as_bytes();
+    let mut left = count;
+    for at in 0..bytes.len() {
+        if left == 0 {
+            return &bytes[..at];
+        }
+        if bytes[at] == b'\n' {
+            left = left.saturating_sub(1);
+        }
+    }
+    bytes
+}
+
+#[test]
+fn cut_behind_lines(rt: HostRuntime) -> Result<(), Fail> {
+    // The innermost block that is open behind each line.
+    let rows: [(u64, Want); 13] = [
+        (0, None),
+        (1, Some((1, 1, BrokenKind::OpenBrace))),
+        (2, Some((2, 5, BrokenKind::OpenBrace))),
+        (3, Some((3, 9, BrokenKind::OpenBrace))),
+        (4, Some((4, 13, BrokenKind::OpenBrace))),
+        (5, Some((4, 13, BrokenKind::OpenBrace))),
+        (6, Some((4, 13, BrokenKind::OpenBrace))),
+        (7, Some((3, 9, BrokenKind::OpenBrace))),
+        (8, Some((3, 9, BrokenKind::OpenBrace))),
+        (9, Some((2, 5, BrokenKind::OpenBrace))),
+        (10, Some((2, 5, BrokenKind::OpenBrace))),
+        (11, Some((1, 1, BrokenKind::OpenBrace))),
+        (12, None),
+    ];
+    for (lines, want) in rows {
+        let text = str::from_utf8(first_lines(IMPORT, lines))?;
+        assert_eq!(rt; fault(rt.alloc(), text)?, want, "{lines}");
+    }
+    Ok(())
+}
 
 #[test]
 fn cut_short(rt: HostRuntime) -> Result<(), Fail> {

@@ -33,7 +33,8 @@ fn shown(alloc: Global, text: &str, fault: CheckFault) -> Result<String, Fail> {
     }
 }
 
-fn found(alloc: Global, chain: &str, text: &str) -> Result<String, Fail> {
+/// The answer for the chain.
+pub fn found(alloc: Global, chain: &str, text: &str) -> Result<String, Fail> {
     let tree = read_junos(alloc, text.as_bytes())?;
     let names = names_of(alloc, chain)?;
     let names = names.as_slice();
@@ -436,23 +437,22 @@ fn subroutines(rt: HostRuntime) -> Result<(), Fail> {
     )
 }
 
-/// So many policies, a line each, of which each calls the next, and one that calls none.
-fn calling(alloc: Global, count: u8) -> Result<String, Fail> {
+/// So many policies, a line each, of which each calls the next, and more text.
+pub fn calling(alloc: Global, count: u32, more: &str) -> Result<String, Fail> {
     let mut text = String::new(alloc);
     for number in 0..count {
         let next = number + 1;
         let line = format!(in alloc; "policy-statement P{number} {{ from policy P{next}; }}\n")?;
         text.push_str(line.as_str())?;
     }
-    let last = format!(in alloc; "policy-statement P{count} {{ }}\n")?;
-    text.push_str(last.as_str())?;
+    text.push_str(more)?;
     Ok(text)
 }
 
 #[test]
 fn too_deep(rt: HostRuntime) -> Result<(), Fail> {
-    let deepest = calling(rt.alloc(), 128)?;
-    let too_deep = calling(rt.alloc(), 129)?;
+    let deepest = calling(rt.alloc(), 128, "policy-statement P128 { }\n")?;
+    let too_deep = calling(rt.alloc(), 129, "policy-statement P129 { }\n")?;
     check(
         &rt,
         &[

@@ -9,6 +9,8 @@ mod causes;
 #[cfg(test)]
 mod edge;
 #[cfg(test)]
+mod hostile;
+#[cfg(test)]
 mod places;
 #[cfg(test)]
 mod shown;

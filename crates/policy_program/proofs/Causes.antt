@@ -1,11 +1,14 @@
 -- Words are refused exactly where one of the causes stands.
-use Rattle.std.proofs.Common.{◌≡◌, ◌⊎◌, inl, inr, ℕ, refl, sym, ap, subst, ◌∙◌, Bool, true, false, List, [], ◌∷◌, Some}
-use Rattle.std.specs.Prelude.{bytes_eq, codes}
+use Rattle.std.proofs.Common.{◌≡◌, ◌⊎◌, inl, inr, ℕ, refl, sym, ap, subst, ◌∙◌, Bool, true, false, List, [], ◌∷◌, Option, Some, None}
+use Rattle.std.specs.Prelude.{bytes_eq, codes, option_map}
 use Rattle.std.specs.List.{list_all}
+use Rattle.std.specs.Option.{is_some}
 use Rattle.std.proofs.lemmas.Bool.{and_parts}
 use Rattle.std.proofs.lemmas.Slice.Eq.{bytes_eq-Decides}
 use Rattle.clap.specs.Words.{App, Kinds, built, fault_of}
-use Rattle.policy_program.specs.Words.{Verb, Translates, Judges, verb_word, Slot, slots, Request, Translate, Judge, request_by, app_of_verb, value_of, AreValues, BeginsWith, IsRefused, AnyMisformed, UsageCause, unknown_verb, faulty, misformed}
+use Rattle.policy_program.specs.Languages.{language_in}
+use Rattle.policy_program.specs.Words.{Verb, Translates, Judges, verb_word, Slot, slots, given_in, Request, Translate, Judge, request_by, app_of_verb, value_of, AreValues, BeginsWith, IsRefused, AnyMisformed, UsageCause, unknown_verb, faulty, misformed}
+use Rattle.policy_program.specs.declared.language.Language.{Language}
 use Rattle.policy_program.proofs.ClapValues.{is_sound_command, requires_name, value_given}
 
 -- each command is sound, and requires each name of its table
@@ -26,13 +29,20 @@ given command words [] sound none named = inr ([], tt)
 given command words (s ∷ ss) sound none named =
     let parts = and_parts (requires_name s.name (built command).top.rules) (list_all (λ s. requires_name s.name (built command).top.rules) ss) named in
     let first = value_given command words s.name sound parts.0 none in
-    go first.0 first.1 (s.is_formed first.0) refl (given command words ss sound none parts.1)
+    go first.0 first.1 (s.is_formed (given_in command words) first.0) refl (given command words ss sound none parts.1)
   where
-    go : (word : List ℕ) → value_of command words s ≡ Some word → (t : Bool) → s.is_formed word ≡ t → AnyMisformed command words ss ⊎ ((vs : List (List ℕ)) × AreValues command words ss vs)
+    go : (word : List ℕ) → value_of command words s ≡ Some word → (t : Bool) → s.is_formed (given_in command words) word ≡ t
+        → AnyMisformed command words ss ⊎ ((vs : List (List ℕ)) × AreValues command words ss vs)
         → AnyMisformed command words (s ∷ ss) ⊎ ((vs : List (List ℕ)) × AreValues command words (s ∷ ss) vs)
     go word is false formed others = inl (inl (word, is, formed))
     go word is true formed (inl m) = inl (inr m)
     go word is true formed (inr a) = inr (word ∷ a.0, (is, formed, a.1))
+
+-- a language makes a request of judge
+judged : (language : Option Language) (policy file route_file : List ℕ) → is_some language ≡ true
+    → (q : Request) × (option_map (λ l. Judge (record { language = l; policy = policy; file = file; route_file = route_file })) language ≡ Some q)
+judged None policy file route_file is = absurd cc
+judged (Some l) policy file route_file is = (Judge (record { language = l; policy = policy; file = file; route_file = route_file }), refl)
 
 -- the values of a table make a request
 made : (command : App) (words : List (List ℕ)) (verb : Verb) (vs : List (List ℕ)) → AreValues command words (slots verb) vs → (q : Request) × (request_by verb vs ≡ Some q)
@@ -47,7 +57,7 @@ made command words Judges [] v = absurd v
 made command words Judges (a ∷ []) v = absurd v.2
 made command words Judges (a ∷ b ∷ []) v = absurd v.2.2
 made command words Judges (a ∷ b ∷ c ∷ []) v = absurd v.2.2.2
-made command words Judges (a ∷ b ∷ c ∷ d ∷ []) v = (Judge (record { policy = b; file = c; route_file = d }), refl)
+made command words Judges (a ∷ b ∷ c ∷ d ∷ []) v = judged (language_in a) b c d v.1
 made command words Judges (a ∷ b ∷ c ∷ d ∷ e ∷ vs) v = absurd v.2.2.2.2
 
 -- words that begin with a verb and are refused have a cause
@@ -102,7 +112,7 @@ not_misformed command words (s ∷ ss) [] a m = a
 not_misformed command words (s ∷ ss) (v ∷ vs) a (inl m) =
     let both : Some m.0 ≡ Some v = sym m.1 ∙ a.0 in
     let same : m.0 ≡ v = cc in
-    let no : true ≡ false = sym a.1 ∙ ap s.is_formed (sym same) ∙ m.2 in
+    let no : true ≡ false = sym a.1 ∙ ap (s.is_formed (given_in command words)) (sym same) ∙ m.2 in
     cc
 not_misformed command words (s ∷ ss) (v ∷ vs) a (inr m) = not_misformed command words ss vs a.2 m
 

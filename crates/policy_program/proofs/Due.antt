@@ -2,20 +2,13 @@
 use Rattle.std.proofs.Common.{◌≡◌, ◌⊎◌, inl, inr, refl, sym, ap, subst, ◌∙◌, ℕ, ◌<◌, ◌≤◌, Bool, true, false, List, [], ◌∷◌, length, Option, Some, None, arith}
 use Rattle.std.specs.Prelude.{nat_le, IsSomeAnd}
 use Rattle.std.proofs.lemmas.Bool.Decides.{nat_tests}
-use Rattle.std.proofs.lemmas.Option.{same_Some}
-use Rattle.text_words.specs.declared.statement.Span.{Span}
-use Rattle.policy_text.specs.declared.fault.Cause.{Cause}
 use Rattle.policy_outside.specs.Texts.{Texts, text_at}
 use Rattle.route_types.proofs.RouteSpelled.{not_both_of, spelled_or_refused}
-use Rattle.ios_tree.specs.Tree.{ios_tree}
-use Rattle.ios_tree.specs.declared.item.IosItem.{IosItem}
-use Rattle.ios_reader.specs.Profile.{is_defined, first_fault_within}
-use Rattle.ios_reader.proofs.LeastFault.{is_in_profile}
-use Rattle.policy_program.specs.Source.{Taken, Dialect, Ios, Rpl, OfIos, Load, Loaded, Broken, NoPolicy, Outside, LoadsIos, LoadsIn}
-use Rattle.policy_program.specs.Lines.{place_in}
+use Rattle.policy_program.specs.Source.{Taken, Loaded}
 use Rattle.policy_program.specs.Answer.{Told, CannotRead, IsTooLong, IsBroken, HasNoPolicy, IsOutside, SpellsNoRoute, Answer, Result, Refusal, status_of, status_told}
 use Rattle.policy_program.specs.Words.{Request, Translate, Judge}
-use Rattle.policy_program.specs.Requests.{Input, PolicyFile, RouteFile, inputs_of, taken_by, file_in, told_by, IsResult, IsSound, IsUnsound, IsFirstUnsound, AreSound, IsTextOf, HasNoText, AreTextsOf, IsAtTurn, IsDue, IsServed, most_bytes}
+use Rattle.policy_program.specs.Requests.{Input, PolicyFile, RouteFile, inputs_of, taken_by, file_in, IsResult, IsSound, IsUnsound, IsFirstUnsound, AreSound, IsTextOf, HasNoText, AreTextsOf, IsAtTurn, IsDue, IsServed, most_bytes}
+use Rattle.policy_program.proofs.LoadsOnce.{told_once, ios_or, loads_or}
 use Rattle.policy_program.specs.declared.status.Status.{Status}
 use Rattle.policy_program.specs.declared.status.Status.TheVariants.{Done}
 
@@ -92,39 +85,6 @@ turn_once texts (i ∷ is) f g a b (inr x) no_f (inl y) no_g = absurd (no_text_n
 turn_once texts (i ∷ is) f g a b (inr x) no_f (inr y) no_g = turn_once texts is f g a b x.2 no_f y.2 no_g
 
 -- ---- what is read of a file
-
--- what an IOS text loads as is told in one way
-loads_once : (taken : Taken) (names : List (List ℕ)) (items : List IosItem) (text : List ℕ) (a b : Load) → LoadsIos taken names items a → LoadsIos taken names items b
-    → told_by (record { dialect = Ios; names = names; text = text }) a ≡ told_by (record { dialect = Ios; names = names; text = text }) b
-loads_once taken [] items text a b x y = absurd x
-loads_once taken (name ∷ other ∷ names) items text a b x y = absurd x
-loads_once taken (name ∷ []) items text (Broken span kind) b x y = absurd x
-loads_once taken (name ∷ []) items text a (Broken span kind) x y = absurd y
-loads_once taken (name ∷ []) items text (Loaded p) (Loaded q) x y = refl
-loads_once taken (name ∷ []) items text (Loaded p) (NoPolicy n) x y = let no : true ≡ false = sym x.1.defined ∙ y.1 in absurd cc
-loads_once taken (name ∷ []) items text (Loaded p) (Outside span cause) x y = let no : None ≡ Some (span, cause) = sym x.2 ∙ y.1 in absurd cc
-loads_once taken (name ∷ []) items text (NoPolicy n) (Loaded q) x y = let no : true ≡ false = sym y.1.defined ∙ x.1 in absurd cc
-loads_once taken (name ∷ []) items text (NoPolicy n) (NoPolicy m) x y = let same : n ≡ m = x.0 ∙ sym y.0 in cc
-loads_once taken (name ∷ []) items text (NoPolicy n) (Outside span cause) x y = let no : true ≡ false = sym y.0 ∙ x.1 in absurd cc
-loads_once taken (name ∷ []) items text (Outside span cause) (Loaded q) x y = let no : None ≡ Some (span, cause) = sym y.2 ∙ x.1 in absurd cc
-loads_once taken (name ∷ []) items text (Outside span cause) (NoPolicy n) x y = let no : true ≡ false = sym x.0 ∙ y.1 in absurd cc
-loads_once taken (name ∷ []) items text (Outside span cause) (Outside other why) x y =
-    let both : Some (span, cause) ≡ Some (other, why) = sym x.1 ∙ y.1 in
-    ap (λ (fault : Span × Cause). Some (IsOutside (place_in text fault.0.start) fault.1)) (same_Some (span, cause) (other, why) both)
-
--- the same in any language
-told_once : (taken : Taken) (dialect : Dialect) (names : List (List ℕ)) (text : List ℕ) (a b : Load) → LoadsIn dialect taken names text a → LoadsIn dialect taken names text b
-    → told_by (record { dialect = dialect; names = names; text = text }) a ≡ told_by (record { dialect = dialect; names = names; text = text }) b
-told_once taken Ios names text a b x y = loads_once taken names (ios_tree text) text a b x y
-told_once taken Rpl [] text a b x y = absurd x
-told_once taken Rpl (name ∷ other ∷ names) text a b x y = absurd x
-told_once taken Rpl (name ∷ []) text (Loaded p) (Loaded q) x y = refl
-told_once taken Rpl (name ∷ []) text (Loaded p) (Broken span kind) x y = absurd y
-told_once taken Rpl (name ∷ []) text (Loaded p) (NoPolicy n) x y = absurd y
-told_once taken Rpl (name ∷ []) text (Loaded p) (Outside span cause) x y = absurd y
-told_once taken Rpl (name ∷ []) text (Broken span kind) b x y = absurd x
-told_once taken Rpl (name ∷ []) text (NoPolicy n) b x y = absurd x
-told_once taken Rpl (name ∷ []) text (Outside span cause) b x y = absurd x
 
 unsound_once : (taken : Taken) (i : Input) (text : List ℕ) (a b : Told) → IsUnsound taken i text a → IsUnsound taken i text b → status_told a ≡ status_told b
 unsound_once taken (PolicyFile file dialect names) text a b x y =
@@ -213,16 +173,6 @@ look_at texts (i ∷ is) = elim (look_up texts (file_in i)) [
   ]
 ]
 
--- an IOS text loads, or something is told of it
-load_or : (taken : Taken) (file name text : List ℕ) → IsSound taken (PolicyFile file Ios (name ∷ [])) text ⊎ ((about : Told) × IsUnsound taken (PolicyFile file Ios (name ∷ [])) text about)
-load_or taken file name text = go (is_defined name (ios_tree text)) refl (first_fault_within taken name (ios_tree text)) refl
-  where
-    go : (t : Bool) → is_defined name (ios_tree text) ≡ t → (o : Option (Span × Cause)) → first_fault_within taken name (ios_tree text) ≡ o
-        → IsSound taken (PolicyFile file Ios (name ∷ [])) text ⊎ ((about : Told) × IsUnsound taken (PolicyFile file Ios (name ∷ [])) text about)
-    go false absent o sound = inr (HasNoPolicy name, (NoPolicy 0, (refl, absent), refl))
-    go true defined None sound = inl (OfIos (ios_tree text) name, (refl, is_in_profile taken name (ios_tree text) defined sound, sound))
-    go true defined (Some fault) sound = inr (IsOutside (place_in text fault.0.start) fault.1, (Outside fault.0 fault.1, (defined, sound), refl))
-
 -- a text spells a route, or something is told of it
 route_or : (taken : Taken) (file text : List ℕ) → IsSound taken (RouteFile file) text ⊎ ((about : Told) × IsUnsound taken (RouteFile file) text about)
 route_or taken file text = elim (spelled_or_refused text) [ inl r ↦ inl r | inr line ↦ inr (SpellsNoRoute line.0, (line.0, refl, line.1)) ]
@@ -232,14 +182,14 @@ sound_or : (texts : Texts) (q : Request) (ts : List (List ℕ)) → AreTextsOf (
     → AreSound (taken_by q) (inputs_of q) ts ⊎ ((file : List ℕ) × (about : Told) × IsFirstUnsound (taken_by q) (inputs_of q) ts file about)
 sound_or texts (Translate t) [] given = absurd given
 sound_or texts (Translate t) (source ∷ other ∷ ts) given = absurd given.1
-sound_or texts (Translate t) (source ∷ []) given = elim (load_or (taken_by (Translate t)) t.file t.policy source) [
+sound_or texts (Translate t) (source ∷ []) given = elim (ios_or (taken_by (Translate t)) t.file t.policy source) [
   | inl sound ↦ inl (sound, tt)
   | inr none ↦ inr (t.file, none.0, inl (refl, none.1))
 ]
 sound_or texts (Judge j) [] given = absurd given
 sound_or texts (Judge j) (source ∷ []) given = absurd given.1
 sound_or texts (Judge j) (source ∷ route ∷ other ∷ ts) given = absurd given.1.1
-sound_or texts (Judge j) (source ∷ route ∷ []) given = elim (load_or (taken_by (Judge j)) j.file j.policy source) [
+sound_or texts (Judge j) (source ∷ route ∷ []) given = elim (loads_or (taken_by (Judge j)) j.file j.language j.policy source) [
   | inr none ↦ inr (j.file, none.0, inl (refl, none.1))
   | inl sound ↦ elim (route_or (taken_by (Judge j)) j.route_file route) [
     | inl spelled ↦ inl (sound, (spelled, tt))

@@ -1,6 +1,6 @@
 -- From how the layers of a run end to how the run ends.
-use Rattle.std.proofs.Common.{◌≡◌, ◌⊎◌, refl, inl, inr, sym, subst, ◌∙◌, ℕ, true, List, [], ◌∷◌, Option, Some, Ok, Err}
-use Rattle.std.specs.Prelude.{Result as Outcome, Vec}
+use Rattle.std.proofs.Common.{◌≡◌, ◌⊎◌, refl, inl, inr, sym, subst, ◌∙◌, ℕ, true, List, [], ◌∷◌, Option, Some, None, Ok, Err}
+use Rattle.std.specs.Prelude.{Result as Outcome, Vec, option_map}
 use Rattle.std.specs.declared.alloc.Global.{Global}
 use Rattle.policy_outside.specs.declared.faults.PutFault.{PutFault}
 use Rattle.policy_outside.specs.declared.faults.PutFault.TheVariants.{Failed, Memory as NoRoom}
@@ -10,10 +10,12 @@ use Rattle.policy_outside.specs.Shelf.{ShelfView, SameFaults, FaultRose}
 use Rattle.policy_outside.specs.Sink.{Puts}
 use Rattle.rpl_written.specs.Written.{is_new_name}
 use Rattle.policy_program.specs.Answer.{Told, CannotRead, IsTooLong, IsBroken, HasNoPolicy, IsOutside, SpellsNoRoute, Result, status_told, line_told}
-use Rattle.policy_program.specs.Words.{Verb, Translates, Judges, Request, Translate, Judge, request_by, slots, app_of_verb, AreValues, Accepts}
+use Rattle.policy_program.specs.Languages.{language_in}
+use Rattle.policy_program.specs.Words.{Verb, Translates, Judges, Request, TranslateParts, Translate, Judge, request_by, slots, app_of_verb, AreValues, Accepts}
 use Rattle.policy_program.specs.Requests.{Input, inputs_of, file_in, IsTextOf, HasNoText, AreTextsOf, IsAtTurn, IsDue}
 use Rattle.policy_program.specs.Ends.{Shelves, Sinks, Ends, by_fetch, refused, written, unwritten, by_memory, Tells}
 use Rattle.policy_program.specs.Layers.{told_of, AnswersOn, IsWellNamed, FailsToFetch, FetchesText, GoesOn, FetchesAll, TellsPut, TellsAnswer, AnswersRequest}
+use Rattle.policy_program.specs.declared.language.Language.{Language}
 use Rattle.policy_program.specs.declared.refusal.Fault.{Fault}
 use Rattle.policy_program.specs.declared.refusal.Fault.TheVariants.{Refused, Memory}
 use Rattle.policy_program.specs.declared.request.Output.{Output}
@@ -135,6 +137,11 @@ ends_request words q shelf out err status accepted answers =
 
 -- ---- the new name
 
+not_translation : (language : Option Language) (policy file route : List ℕ) (t : TranslateParts)
+    → option_map (λ l. Judge (record { language = l; policy = policy; file = file; route_file = route })) language ≡ Some (Translate t) → ⊥
+not_translation None policy file route t e = absurd cc
+not_translation (Some l) policy file route t e = absurd cc
+
 -- accepted words name a new policy by its form
 pub well_named : (words : List (List ℕ)) (q : Request) → Accepts words q → IsWellNamed q
 well_named words (Judge j) a = tt
@@ -152,5 +159,5 @@ well_named words (Translate t) a = by a.verb a.values a.formed a.makes
     by Judges (x ∷ []) v e = absurd v.2
     by Judges (x ∷ policy ∷ []) v e = absurd v.2.2
     by Judges (x ∷ policy ∷ file ∷ []) v e = absurd v.2.2.2
-    by Judges (x ∷ policy ∷ file ∷ route ∷ []) v e = absurd cc
+    by Judges (x ∷ policy ∷ file ∷ route ∷ []) v e = absurd (not_translation (language_in x) policy file route t e)
     by Judges (x ∷ policy ∷ file ∷ route ∷ other ∷ vs) v e = absurd v.2.2.2.2

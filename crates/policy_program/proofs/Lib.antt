@@ -13,6 +13,8 @@ pub mod PlainEntries
 pub mod IosMeaning
 pub mod WholeLaws
 mod WordExamples
+pub mod Chains
+pub mod ChainNames
 pub mod Causes
 pub mod ClapParse
 pub mod ClapRows
@@ -24,6 +26,7 @@ pub mod Loaded
 pub mod Judged
 pub mod Fetched
 pub mod Right
+pub mod LoadsOnce
 pub mod Due
 pub mod Endings
 pub mod Ended

@@ -1,20 +1,32 @@
--- What the check of a policy says of its source, and what is told of a file that does not load.
+-- What the reading and the check of a policy say of its source, and what is told of a file that does not load.
 use Rattle.std.proofs.Common.{◌≡◌, inl, refl, sym, ap, subst, ◌∙◌, ℕ, List, [], ◌∷◌, Some, None, Err}
-use Rattle.std.specs.Prelude.{slice_get, unwrap_or}
+use Rattle.std.specs.Prelude.{option_map}
+use Rattle.text_words.specs.JunosCut.{junos_fault, IsFault}
+use Rattle.text_words.specs.declared.fault.TextFault.{TextFault}
+use Rattle.text_words.specs.declared.fault.TextFault.TheVariants as unread
 use Rattle.policy_text.specs.declared.fault.CheckFault.{CheckFault}
-use Rattle.policy_text.specs.declared.fault.CheckFault.TheVariants.{NoPolicy as NotThere, Outside as NotInProfile, Memory as NotChecked}
+use Rattle.policy_text.specs.declared.fault.CheckFault.TheVariants as unchecked
 use Rattle.ios_tree.specs.declared.item.IosItem.{IosItem}
 use Rattle.ios_tree.specs.Tree.{ios_tree}
 use Rattle.ios_reader.specs.Faults.{IsCheckFault}
 use Rattle.ios_reader.specs.Profile.{PolicyParts, InProfile, all_forms, first_fault_within}
+use Rattle.ios_meaning.specs.Meaning.{name_of}
+use Rattle.junos_tree.specs.Tree.{junos_tree}
+use Rattle.junos_tree.specs.declared.item.JunosItem.{JunosItem}
+use Rattle.junos_reader.specs.Faults as junos
+use Rattle.junos_reader.specs.Profile as chain
 use Rattle.policy_program.specs.FirstForms.{is_first_form}
-use Rattle.policy_program.specs.Source.{Taken, Ios, NoPolicy, Outside}
-use Rattle.policy_program.specs.Answer.{Told, HasNoPolicy}
-use Rattle.policy_program.specs.Words.{TranslateParts, Translate, JudgeParts, Judge}
-use Rattle.policy_program.specs.Requests.{Input, PolicyFile, RouteFile, IsFirstUnsound}
-use Rattle.policy_program.specs.Layers.{FailsToLoad, IsLoaded, TellsLoad, AnswersOn, told_of}
+use Rattle.policy_program.specs.Source.{Taken, Dialect, Ios, OfIos, OfJunos, Loaded, Broken, NoPolicy, Outside, Loads, broken_at, ios_source, junos_source}
+use Rattle.policy_program.specs.Answer.{Told}
+use Rattle.policy_program.specs.Words.{TranslateParts, Translate}
+use Rattle.policy_program.specs.Requests.{PolicyFile}
+use Rattle.policy_program.specs.Layers.{FailsToLoad, IsLoaded, TellsLoad, RefusesUnsound, AnswersOn, fault_of_text, fault_of_check}
+use Rattle.policy_program.specs.declared.load.LoadFault.{LoadFault}
+use Rattle.policy_program.specs.declared.load.LoadFault.TheVariants as unloaded
 use Rattle.policy_program.specs.declared.refusal.Fault.{Fault}
 use Rattle.policy_program.specs.declared.refusal.Fault.TheVariants.{Refused, Memory}
+
+-- ---- IOS
 
 -- a checked policy of the tree of a text is loaded from the text
 pub loaded : (taken : Taken) (text policy : List ℕ) (tree : List IosItem) (checked : PolicyParts) → tree ≡ ios_tree text → checked ≡ record { items = tree; names = policy ∷ [] }
@@ -25,29 +37,68 @@ loaded taken text policy tree checked read is profile sound = record {
 }
 
 -- a fault of the check is one of the load
-pub fails : (taken : Taken) (text policy : List ℕ) (tree : List IosItem) (fault : CheckFault) → tree ≡ ios_tree text → IsCheckFault taken policy tree fault → FailsToLoad taken text policy fault
-fails taken text policy tree (NotThere place) read is = subst (λ (items : List IosItem). IsCheckFault taken policy items (NotThere place)) read is
-fails taken text policy tree (NotInProfile span cause) read is = subst (λ (items : List IosItem). IsCheckFault taken policy items (NotInProfile span cause)) read is
-fails taken text policy tree NotChecked read is = tt
+check_fails : (taken : Taken) (text policy : List ℕ) (tree : List IosItem) (fault : CheckFault) → tree ≡ ios_tree text → IsCheckFault taken policy tree fault
+    → FailsToLoad taken (ios_source policy text) (fault_of_check fault)
+check_fails taken text policy tree (unchecked.NoPolicy place) read is = subst (λ (items : List IosItem). IsCheckFault taken policy items (unchecked.NoPolicy place)) read is
+check_fails taken text policy tree (unchecked.Outside span cause) read is = subst (λ (items : List IosItem). IsCheckFault taken policy items (unchecked.Outside span cause)) read is
+check_fails taken text policy tree unchecked.Memory read is = tt
 
--- what is told of a file that does not load, or want of memory
-abbrev FirstUnsound : Taken → List Input → List (List ℕ) → Fault → Type 0
-FirstUnsound taken inputs texts (Refused r) = IsFirstUnsound taken inputs texts r.file.now (told_of r.told)
-FirstUnsound taken inputs texts Memory = Unit {0}
+pub fails : (taken : Taken) (text policy : List ℕ) (tree : List IosItem) (fault : CheckFault) (about : LoadFault) → tree ≡ ios_tree text → IsCheckFault taken policy tree fault
+    → about ≡ fault_of_check fault → FailsToLoad taken (ios_source policy text) about
+fails taken text policy tree fault about read is same = subst (FailsToLoad taken (ios_source policy text)) (sym same) (check_fails taken text policy tree fault read is)
 
-first_unsound : (taken : Taken) (file policy text : List ℕ) (is : List Input) (ts : List (List ℕ)) (fault : CheckFault) (about : Fault) → FailsToLoad taken text policy fault → TellsLoad file policy text fault about
-    → FirstUnsound taken (PolicyFile file Ios (policy ∷ []) ∷ is) (text ∷ ts) about
-first_unsound taken file policy text is ts (NotThere place) (Refused r) fails tells =
-    inl (tells.0, (NoPolicy place, fails, ap (λ (p : ℕ). Some (HasNoPolicy (unwrap_or (slice_get (policy ∷ []) p) []))) fails.0 ∙ ap (λ (t : Told). Some t) (sym tells.1)))
-first_unsound taken file policy text is ts (NotInProfile span cause) (Refused r) fails tells = inl (tells.0, (Outside span cause, fails, ap (λ (t : Told). Some t) (sym tells.1)))
-first_unsound taken file policy text is ts NotChecked (Refused r) fails tells = absurd cc
-first_unsound taken file policy text is ts fault Memory fails tells = tt
+-- what is loaded of an IOS text is its policy
+pub map_loaded : (text policy : List ℕ) (checked : PolicyParts) → IsLoaded all_forms text policy checked → Loads all_forms (ios_source policy text) (Loaded (OfIos checked.items (name_of checked)))
+map_loaded text policy checked loaded = subst (λ (c : PolicyParts). Loads all_forms (ios_source policy text) (Loaded (OfIos c.items (name_of c)))) (sym loaded.is) loaded.loads
 
--- the same as the answer of each verb
-pub translate_refused : (t : TranslateParts) (text : List ℕ) (fault : CheckFault) (about : Fault) → FailsToLoad is_first_form text t.policy fault → TellsLoad t.file t.policy text fault about → AnswersOn (Translate t) (text ∷ []) (Err about)
-translate_refused t text fault (Refused r) fails tells = first_unsound is_first_form t.file t.policy text [] [] fault (Refused r) fails tells
+-- ---- Junos
+
+-- a checked chain of the tree of a text is loaded from the text
+pub chain_loaded : (text : List ℕ) (names rows : List (List ℕ)) (tree : List JunosItem) (checked : chain.PolicyParts) → rows ≡ names → junos_tree text ≡ Some tree
+    → checked ≡ record { items = tree; names = rows }
+    → chain.InProfile rows tree → Loads all_forms (junos_source names text) (Loaded (OfJunos checked.items checked.names))
+chain_loaded text names rows tree checked same read is profile = (
+  tree,
+  read,
+  (ap (λ (c : chain.PolicyParts). OfJunos c.items c.names) is ∙ ap (OfJunos tree) same, subst (λ (ns : List (List ℕ)). chain.InProfile ns tree) same profile),
+)
+
+broken : (text : List ℕ) (names : List (List ℕ)) (fault : TextFault) → IsFault (junos_fault text) fault → FailsToLoad all_forms (junos_source names text) (fault_of_text fault)
+broken text names (unread.Broken span kind) is = ap (option_map broken_at) is
+broken text names unread.Memory is = tt
+
+-- a fault of the text is one of the load
+pub chain_broken : (text : List ℕ) (names : List (List ℕ)) (fault : TextFault) (about : LoadFault) → IsFault (junos_fault text) fault → about ≡ fault_of_text fault
+    → FailsToLoad all_forms (junos_source names text) about
+chain_broken text names fault about is same = subst (FailsToLoad all_forms (junos_source names text)) (sym same) (broken text names fault is)
+
+chain_check : (text : List ℕ) (names : List (List ℕ)) (tree : List JunosItem) (fault : CheckFault) → junos_tree text ≡ Some tree → junos.IsCheckFault names tree fault
+    → FailsToLoad all_forms (junos_source names text) (fault_of_check fault)
+chain_check text names tree (unchecked.NoPolicy place) read is = (tree, read, is)
+chain_check text names tree (unchecked.Outside span cause) read is = (tree, read, is)
+chain_check text names tree unchecked.Memory read is = tt
+
+-- a fault of the check is one of the load
+pub chain_fails : (text : List ℕ) (names rows : List (List ℕ)) (tree : List JunosItem) (fault : CheckFault) (about : LoadFault) → rows ≡ names → junos_tree text ≡ Some tree
+    → junos.IsCheckFault rows tree fault
+    → about ≡ fault_of_check fault → FailsToLoad all_forms (junos_source names text) about
+chain_fails text names rows tree fault about named read is same =
+    subst (FailsToLoad all_forms (junos_source names text)) (sym same)
+    (chain_check text names tree fault read (subst (λ (ns : List (List ℕ)). junos.IsCheckFault ns tree fault) named is))
+
+-- ---- any language
+
+-- what is told of a file that does not load refuses it
+pub unsound : (taken : Taken) (file : List ℕ) (dialect : Dialect) (names : List (List ℕ)) (text : List ℕ) (fault : LoadFault) (about : Fault)
+    → FailsToLoad taken (record { dialect = dialect; names = names; text = text }) fault → TellsLoad file names text fault about → RefusesUnsound taken (PolicyFile file dialect names) text about
+unsound taken file dialect names text (unloaded.Broken span kind) (Refused r) fails tells = (tells.0, (Broken span kind, fails, ap (λ (t : Told). Some t) (sym tells.1)))
+unsound taken file dialect names text (unloaded.NoPolicy place) (Refused r) fails tells = (tells.0, (NoPolicy place, fails, ap (λ (t : Told). Some t) (sym tells.1)))
+unsound taken file dialect names text (unloaded.Outside span cause) (Refused r) fails tells = (tells.0, (Outside span cause, fails, ap (λ (t : Told). Some t) (sym tells.1)))
+unsound taken file dialect names text unloaded.Memory (Refused r) fails tells = absurd cc
+unsound taken file dialect names text fault Memory fails tells = tt
+
+-- the same as the answer of translate
+pub translate_refused : (t : TranslateParts) (text : List ℕ) (fault : LoadFault) (about : Fault) → FailsToLoad is_first_form (ios_source t.policy text) fault
+    → TellsLoad t.file (t.policy ∷ []) text fault about → AnswersOn (Translate t) (text ∷ []) (Err about)
+translate_refused t text fault (Refused r) fails tells = inl (unsound is_first_form t.file Ios (t.policy ∷ []) text fault (Refused r) fails tells)
 translate_refused t text fault Memory fails tells = tt
-
-pub judge_refused : (j : JudgeParts) (source route : List ℕ) (fault : CheckFault) (about : Fault) → FailsToLoad all_forms source j.policy fault → TellsLoad j.file j.policy source fault about → AnswersOn (Judge j) (source ∷ route ∷ []) (Err about)
-judge_refused j source route fault (Refused r) fails tells = first_unsound all_forms j.file j.policy source (RouteFile j.route_file ∷ []) (route ∷ []) fault (Refused r) fails tells
-judge_refused j source route fault Memory fails tells = tt

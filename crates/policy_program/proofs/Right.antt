@@ -2,8 +2,6 @@
 use Rattle.std.proofs.Common.{◌≡◌, refl, ℕ, List, sym, ap, subst, ◌∙◌, Ok, Err}
 use Rattle.std.specs.Prelude.{Result, Vec, MatchResult}
 use Rattle.std.specs.declared.alloc.Global.{Global}
-use Rattle.policy_text.specs.declared.fault.CheckFault.{CheckFault}
-use Rattle.policy_text.specs.declared.fault.CheckFault.TheVariants.{Memory}
 use Rattle.ios_tree.specs.Tree.{ios_tree}
 use Rattle.ios_reader.specs.Profile.{PolicyParts}
 use Rattle.ios_meaning.specs.Meaning.{ios_meaning}
@@ -20,6 +18,8 @@ use Rattle.policy_program.specs.Source.{Rpl, OfIos, OfRpl, ios_source}
 use Rattle.policy_program.specs.Results.{IsTranslation}
 use Rattle.policy_program.specs.Layers.{IsLoaded, TranslatesTo}
 use Rattle.policy_program.specs.Written.{Writes}
+use Rattle.policy_program.specs.declared.load.LoadFault.{LoadFault}
+use Rattle.policy_program.specs.declared.load.LoadFault.TheVariants.{Memory}
 
 is_right : (source policy target name : List ℕ) (checked : PolicyParts) → IsLoaded is_first_form source policy checked → Writes checked.items policy target name → IsTranslation (ios_source policy source) Rpl name target
 is_right source policy target name checked loaded written =
@@ -43,7 +43,7 @@ is_right source policy target name checked loaded written =
     }
 
 -- what was written, or want of memory, answers for the source
-pub answers : (source policy name : List ℕ) (checked : PolicyParts) (answer : Result (Vec ℕ Global) CheckFault) → IsLoaded is_first_form source policy checked
+pub answers : (source policy name : List ℕ) (checked : PolicyParts) (answer : Result (Vec ℕ Global) LoadFault) → IsLoaded is_first_form source policy checked
     → MatchResult answer (λ text. Writes checked.items policy text.items name) (λ fault. fault ≡ Memory) → TranslatesTo source policy name answer
 answers source policy name checked (Ok text) loaded written = is_right source policy text.items name checked loaded written
-answers source policy name checked (Err fault) loaded short = subst (λ (f : CheckFault). TranslatesTo source policy name (Err f)) (sym short) tt
+answers source policy name checked (Err fault) loaded short = subst (λ (f : LoadFault). TranslatesTo source policy name (Err f)) (sym short) tt

@@ -1,6 +1,8 @@
 -- Worked examples that the checker computes.
 use Rattle.std.proofs.Common.{refl, List, [], ◌∷◌, ◌++◌, ℕ}
 use Rattle.std.specs.Prelude.{codes}
+use Rattle.policy_program.specs.Languages.{names_from}
+use Rattle.policy_program.specs.declared.language.Language.TheVariants.{Ios, Junos}
 use Rattle.policy_program.specs.Words.{Translate, Judge, TranslateParts, JudgeParts, Accepts, IsRefused}
 use Rattle.policy_program.proofs.OnLiterals.{words_on_literals}
 use Rattle.policy_program.proofs.Words.{request_found, refused_by_none}
@@ -9,7 +11,7 @@ abbrev translation : TranslateParts
 translation = record { policy = codes "IN"; name = codes "in"; file = codes "in.cfg" }
 
 abbrev judgement : JudgeParts
-judgement = record { policy = codes "A,B"; file = codes "in.cfg"; route_file = codes "route.txt" }
+judgement = record { language = Ios; policy = codes "A,B"; file = codes "in.cfg"; route_file = codes "route.txt" }
 
 abbrev from_ios : List (List ℕ)
 from_ios = codes "--from" ∷ codes "ios" ∷ []
@@ -42,9 +44,9 @@ files_apart = request_found _ (Judge judgement) refl
 
 -- behind `--` each word is a file, and a file may be an empty word
 behind_dashes : Accepts (codes "judge" ∷ codes "--policy" ∷ codes "A,B" ∷ from_ios ++ codes "--" ∷ codes "--help" ∷ [] ∷ [])
-    (Judge (record { policy = codes "A,B"; file = codes "--help"; route_file = [] }))
+    (Judge (record { language = Ios; policy = codes "A,B"; file = codes "--help"; route_file = [] }))
 unfolding words_on_literals
-behind_dashes = request_found _ (Judge (record { policy = codes "A,B"; file = codes "--help"; route_file = [] })) refl
+behind_dashes = request_found _ (Judge (record { language = Ios; policy = codes "A,B"; file = codes "--help"; route_file = [] })) refl
 
 -- no words, a verb alone, another verb, and a verb that is not the first word
 no_words : IsRefused []
@@ -92,8 +94,17 @@ file_fewer : IsRefused (codes "judge" ∷ from_ios ++ codes "--policy=IN" ∷ co
 unfolding words_on_literals
 file_fewer = refused_by_none _ refl
 
+-- a chain of Junos, and one with an empty name
+chain : Accepts (codes "judge" ∷ codes "--from=junos" ∷ codes "--policy=A,B" ∷ codes "in.cfg" ∷ codes "route.txt" ∷ []) (Judge (record judgement { language = Junos }))
+unfolding words_on_literals names_from
+chain = request_found _ (Judge (record judgement { language = Junos })) refl
+
+empty_name : IsRefused (codes "judge" ∷ codes "--from=junos" ∷ codes "--policy=A,,B" ∷ codes "in.cfg" ∷ codes "route.txt" ∷ [])
+unfolding words_on_literals names_from
+empty_name = refused_by_none _ refl
+
 -- a language that is not open, a policy with a quote or of no byte, and a name that starts with a digit
-not_open : IsRefused (codes "judge" ∷ codes "--from=junos" ∷ codes "--policy=IN" ∷ codes "in.cfg" ∷ codes "route.txt" ∷ [])
+not_open : IsRefused (codes "judge" ∷ codes "--from=rpl" ∷ codes "--policy=IN" ∷ codes "in.cfg" ∷ codes "route.txt" ∷ [])
 unfolding words_on_literals
 not_open = refused_by_none _ refl
 

@@ -4,7 +4,7 @@ use Rattle.std.specs.Prelude.{codes, bytes_eq, IfOk, IsErrOf}
 use Rattle.std.proofs.lemmas.Slice.Eq.{bytes_eq-Decides}
 use Rattle.clap.specs.Words.{App, Kinds, Row, fault_of, first_of, matches_of}
 use Rattle.route_types.specs.Words.{◌>>=◌, when}
-use Rattle.policy_program.specs.Words.{Verb, Translates, Judges, verb_word, Slot, slots, Request, request_by, app_of_verb, AreValues, Accepts, IsRefused, request_view}
+use Rattle.policy_program.specs.Words.{Verb, Translates, Judges, verb_word, Slot, slots, given_in, Request, request_by, app_of_verb, AreValues, Accepts, IsRefused, request_view}
 use Rattle.policy_program.specs.Spelled.{AnswersBy, asked, asked_in, has_none, made_by, request_in, rows_in}
 use Rattle.policy_program.specs.declared.command.Request.{Request as Asked}
 use Rattle.policy_program.specs.declared.command.WordsFault.{WordsFault}
@@ -43,10 +43,10 @@ made_found : (command : App) (words : List (List ℕ)) (ss : List Slot) (make : 
 made_found command words [] make q e = ([], tt, e)
 made_found command words (s ∷ ss) make q e =
     let first = bind_found (first_of s.name (matches_of command words)) _ q e in
-    let fit = bind_found (when (s.is_formed first.0) first.0) _ q first.2 in
-    let formed = when_found (s.is_formed first.0) first.0 fit.0 fit.1 in
+    let fit = bind_found (when (s.is_formed (given_in command words) first.0) first.0) _ q first.2 in
+    let formed = when_found (s.is_formed (given_in command words) first.0) first.0 fit.0 fit.1 in
     let others = made_found command words ss (λ vs. make (fit.0 ∷ vs)) q fit.2 in
-    (fit.0 ∷ others.0, (first.1 ∙ ap (λ (w : List ℕ). Some w) formed.1, subst (λ (w : List ℕ). s.is_formed w ≡ true) formed.1 formed.0, others.1), others.2)
+    (fit.0 ∷ others.0, (first.1 ∙ ap (λ (w : List ℕ). Some w) formed.1, subst (λ (w : List ℕ). s.is_formed (given_in command words) w ≡ true) formed.1 formed.0, others.1), others.2)
 
 made_read : (command : App) (words : List (List ℕ)) (ss : List Slot) (make : List (List ℕ) → Option Request) (vs : List (List ℕ)) (q : Request) → AreValues command words ss vs → make vs ≡ Some q
     → made_by (matches_of command words) ss make ≡ Some q
@@ -55,7 +55,7 @@ made_read command words [] make (v ∷ vs) q a e = absurd a
 made_read command words (s ∷ ss) make [] q a e = absurd a
 made_read command words (s ∷ ss) make (v ∷ vs) q a e =
     bound_read (first_of s.name (matches_of command words)) _ v q a.0
-    (bound_read (when (s.is_formed v) v) _ v q (ap (λ (t : Bool). when t v) a.1) (made_read command words ss (λ others. make (v ∷ others)) vs q a.2 e))
+    (bound_read (when (s.is_formed (given_in command words) v) v) _ v q (ap (λ (t : Bool). when t v) a.1) (made_read command words ss (λ others. make (v ∷ others)) vs q a.2 e))
 
 -- what is read behind a verb is accepted
 asked_found : (verb : Verb) (words others : List (List ℕ)) (q : Request) → words ≡ verb_word verb ∷ others → asked verb words ≡ Some q → Accepts words q

@@ -1,6 +1,8 @@
 -- The answers to a request, each with its status and its line on `err`: a status is one row here.
 use Rattle.std.specs.Prelude.{ℕ, List, [], ◌∷◌, codes, decimal}
 use Rattle.policy_outside.specs.Sink.{joined}
+use Rattle.text_words.specs.declared.fault.BrokenKind.{BrokenKind}
+use Rattle.text_words.specs.declared.fault.BrokenKind.TheVariants.{OpenQuote, OpenComment, OpenBrace, StrayBrace, NoEnder, Misplaced, Unended}
 use Rattle.policy_text.specs.declared.fault.Cause.{Cause}
 use Rattle.policy_text.specs.CauseNames.{cause_name}
 use Rattle.policy_program.specs.declared.place.Place.{Place}
@@ -27,8 +29,8 @@ number_of RouteRefused = 10
 pub data Told : Type 0 where
   CannotRead : Told
   IsTooLong : Told
-  -- its statements spell no tree: the place and the name of the kind
-  IsBroken : Place → List ℕ → Told
+  -- it is broken here, so that it has no tree
+  IsBroken : Place → BrokenKind → Told
   -- it has no policy of this name
   HasNoPolicy : List ℕ → Told
   IsOutside : Place → Cause → Told
@@ -49,6 +51,16 @@ status_told (HasNoPolicy policy) = NoPolicy
 status_told (IsOutside place cause) = Outside
 status_told (SpellsNoRoute line) = RouteRefused
 
+-- the name of a kind of breaks as it is printed
+abbrev pub kind_name : BrokenKind → List ℕ
+kind_name OpenQuote = codes "open-quote"
+kind_name OpenComment = codes "open-comment"
+kind_name OpenBrace = codes "open-brace"
+kind_name StrayBrace = codes "stray-brace"
+kind_name NoEnder = codes "no-ender"
+kind_name Misplaced = codes "misplaced"
+kind_name Unended = codes "unended"
+
 -- the line of a fault at a place of the file
 abbrev pub place_line : List ℕ → Place → List ℕ → List ℕ → List ℕ
 place_line file place sort name = joined (file ∷ codes ":" ∷ decimal place.line ∷ codes ":" ∷ decimal place.column ∷ sort ∷ name ∷ codes "\n" ∷ [])
@@ -57,7 +69,7 @@ place_line file place sort name = joined (file ∷ codes ":" ∷ decimal place.l
 abbrev pub line_told : List ℕ → Told → List ℕ
 line_told file CannotRead = joined (file ∷ codes ": cannot be read\n" ∷ [])
 line_told file IsTooLong = joined (file ∷ codes ": longer than 16777216 bytes\n" ∷ [])
-line_told file (IsBroken place kind) = place_line file place (codes ": broken: ") kind
+line_told file (IsBroken place kind) = place_line file place (codes ": broken: ") (kind_name kind)
 line_told file (HasNoPolicy policy) = joined (file ∷ codes ": no policy " ∷ policy ∷ codes "\n" ∷ [])
 line_told file (IsOutside place cause) = place_line file place (codes ": outside: ") (cause_name cause)
 line_told file (SpellsNoRoute line) = joined (file ∷ codes ":" ∷ decimal line ∷ codes ": not a route\n" ∷ [])

@@ -1,3 +1,4 @@
+pub mod Languages
 pub mod Words
 pub mod Spelled
 pub mod FirstForms

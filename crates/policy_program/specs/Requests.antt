@@ -5,11 +5,12 @@ use Rattle.route_types.specs.Route.{RouteParts}
 use Rattle.route_types.specs.RouteText.{SpellsRoute, IsFirstBadLine}
 use Rattle.ios_reader.specs.Profile.{all_forms}
 use Rattle.policy_program.specs.FirstForms.{is_first_form}
-use Rattle.policy_program.specs.Source.{Taken, Dialect, Ios, Rpl, Source, Policy, Load, Loaded, Broken, NoPolicy, Outside, Loads, ios_source}
+use Rattle.policy_program.specs.Source.{Taken, Dialect, Ios, Rpl, dialect_of, Source, Policy, Load, Loaded, Broken, NoPolicy, Outside, Loads, source_in, ios_source}
 use Rattle.policy_program.specs.Lines.{place_in}
 use Rattle.policy_program.specs.Answer.{Told, CannotRead, IsTooLong, IsBroken, HasNoPolicy, IsOutside, SpellsNoRoute, Answer, Result, Refusal}
 use Rattle.policy_program.specs.Results.{IsTranslation, IsJudgement}
-use Rattle.policy_program.specs.Words.{Request, Translate, Judge}
+use Rattle.policy_program.specs.Languages.{names_in}
+use Rattle.policy_program.specs.Words.{Request, Translate, JudgeParts, Judge}
 use Rattle.policy_program.specs.declared.status.Status.{Status}
 use Rattle.policy_program.specs.declared.status.Status.TheVariants.{Done}
 
@@ -18,15 +19,19 @@ pub data Input : Type 0 where
   PolicyFile : List ℕ → Dialect → List (List ℕ) → Input
   RouteFile : List ℕ → Input
 
+-- the file whose policy judge is asked about
+abbrev pub judged_file : JudgeParts → Input
+judged_file j = PolicyFile j.file (dialect_of j.language) (names_in j.language j.policy)
+
 -- the files of a request, in the order in which they are fetched and then looked at
 abbrev pub inputs_of : Request → List Input
 inputs_of (Translate t) = PolicyFile t.file Ios (t.policy ∷ []) ∷ []
-inputs_of (Judge j) = PolicyFile j.file Ios (j.policy ∷ []) ∷ RouteFile j.route_file ∷ []
+inputs_of (Judge j) = judged_file j ∷ RouteFile j.route_file ∷ []
 
 -- the text is the result of a request on the texts of its files, with this status
 abbrev pub IsResult : Request → List (List ℕ) → Status → List ℕ → Type 0
 IsResult (Translate t) (source ∷ []) status text = (status ≡ Done) × IsTranslation (ios_source t.policy source) Rpl t.name text
-IsResult (Judge j) (source ∷ route ∷ []) status text = (status ≡ Done) × IsJudgement (ios_source j.policy source) route text
+IsResult (Judge j) (source ∷ route ∷ []) status text = (status ≡ Done) × IsJudgement (source_in j.language j.policy source) route text
 IsResult q texts status text = ⊥
 
 -- the forms of statements that the verb takes

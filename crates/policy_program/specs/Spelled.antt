@@ -21,7 +21,7 @@ abbrev pub made_by : List Row → List Slot → (List (List ℕ) → Option Requ
 made_by rows [] make = make []
 made_by rows (s ∷ ss) make = do
   word ← first_of s.name rows
-  value ← when (s.is_formed word) word
+  value ← when (s.is_formed (λ name. first_of name rows) word) word
   made_by rows ss (λ values. make (value ∷ values))
 
 -- what a verb is asked by its values

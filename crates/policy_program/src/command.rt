@@ -7,7 +7,8 @@ ghost use Rattle.policy_program.specs.declared.command.WordsFault.{WordsFault};
 ghost use Rattle.policy_program.specs.Spelled.{AnswersBy, asked, asked_in, request_in};
 
 use crate::clap_command::{judge_command, parsed, translate_command, value};
-use crate::word_forms::{is_new_name, is_policy_word};
+use crate::language::{Language, language_in};
+use crate::word_forms::{is_new_name, is_policy_word, is_policy_word_of};
 use clap::ArgMatches;
 use std::alloc::{AllocError, Global};
 
@@ -31,10 +32,12 @@ pub struct TranslateWords<'a> {
     pub file: &'a str,
 }
 
-/// The words of `judge --from ios --policy P FILE ROUTEFILE`.
+/// The words of `judge --from D --policy P FILE ROUTEFILE`.
 #[derive(Clone, Copy, Debug)]
 pub struct JudgeWords<'a> {
-    /// The name of the policy in the source.
+    /// The language of the source.
+    pub language: Language,
+    /// The name of the policy in the source; in Junos those of a chain, with a comma between two.
     pub policy: &'a str,
     /// The source's name on the shelf.
     pub file: &'a str,
@@ -62,9 +65,9 @@ impl From<AllocError> for WordsFault {
 /// The request that the words make.
 ///
 /// The first word is the verb, `translate` or `judge`; the other words are read by clap: each option takes
-/// one value and is required, and so are the files. P is not empty and has no byte below 33 and no quote; NAME
-/// is an ASCII letter, then at most 62 letters, digits, `-` or `_`. `Usage` comes only for words that make no
-/// request.
+/// one value and is required, and so are the files. P is not empty and has no byte below 33 and no quote, and in Junos
+/// no name between its commas is empty; NAME is an ASCII letter, then at most 62 letters, digits, `-` or `_`. `Usage`
+/// comes only for words that make no request.
 #[tactic(auto, using(crate::proofs::Words::accepted, crate::proofs::Words::refused))]
 pub fn read_words(alloc: Global, words: &[String]) -> Result<Request<'_>, WordsFault>
     ensures accepted { IfOk result (λ q. Accepts (map string_bytes words.now) (request_view q)) }
@@ -147,16 +150,15 @@ fn judge_words<'a>(matches: &ArgMatches<'a>) -> Option<JudgeWords<'a>>
     ensures { option_map (λ j. Judge (judge_view j)) result ≡ asked_in Judges (rows_of (found_of matches.now)) }
 {
     let source = value(matches, "from")?;
-    if source != "ios" {
-        return None;
-    }
+    let language = language_in(source.as_bytes())?;
     let policy = value(matches, "policy")?;
-    if !is_policy_word(policy.as_bytes()) {
+    if !is_policy_word_of(language, policy.as_bytes()) {
         return None;
     }
     let file = value(matches, "file")?;
     let route_file = value(matches, "route-file")?;
     Some(JudgeWords {
+        language,
         policy,
         file,
         route_file,

@@ -1,24 +1,26 @@
-// What one policy of an IOS text makes of a route.
+// What the policy of a source makes of a route.
 ghost use Rattle.std.specs.Prelude.{◌≡◌, [], ◌∷◌, IfOk};
 ghost use Rattle.ios_reader.specs.Profile.{all_forms};
 ghost use Rattle.policy_program.specs.Results.{outcome_text};
+ghost use Rattle.policy_program.specs.Source.{Loaded, Loads, meaning, source_in};
 ghost use Rattle.policy_program.specs.Words.{Judge, judge_view};
-ghost use Rattle.policy_program.specs.Layers.{AnswersOn, IsLoaded, TellsOutcome};
+ghost use Rattle.policy_program.specs.Layers.{AnswersOn, TellsOutcome, policy_of};
 
 use crate::command::JudgeWords;
-use crate::load::{load_ios, refused_load};
+use crate::load::{LoadedPolicy, load};
 use crate::refusal::{Fault, Refusal, Told};
 use crate::request::Output;
 use crate::status::Status;
 use ios_meaning::judge_ios;
-use ios_reader::{AllForms, CheckedIos};
+use junos_meaning::judge_junos;
 use route_types::{Memory, Outcome, Route, RouteFault, print_route, read_route};
 use std::alloc::Global;
 
 /// The answer of `judge` on the text of its policy's file and that of its route file.
 ///
-/// Its result is the text of what the route-map makes of the route: `reject`, or `accept` and the eight lines of
-/// the changed route.
+/// Its result is the text of what the policy makes of the route: `reject`, or `accept` and the eight lines of the
+/// changed route.
+#[tactic(auto, using(crate::proofs::Judged::unsound_first))]
 pub(crate) fn judge_texts<'a>(
     alloc: Global,
     asked: &JudgeWords<'a>,
@@ -27,26 +29,26 @@ pub(crate) fn judge_texts<'a>(
 ) -> Result<Output, Fault<'a>>
     ensures { AnswersOn (Judge (judge_view asked.now)) (source.now ∷ route_text.now ∷ []) result }
 {
-    match load_ios::<AllForms>(alloc, source, asked.policy.as_bytes()) {
-        Ok(checked) => judge_checked(alloc, asked, &checked, source, route_text),
-        Err(fault) => Err(refused_load(asked.file, asked.policy, source, fault)),
+    match load(alloc, asked, source) {
+        Ok(policy) => judge_loaded(alloc, asked, &policy, source, route_text),
+        Err(fault) => Err(fault),
     }
 }
 
 /// The answer of `judge` where its policy is loaded from the source.
 #[tactic(auto, using(crate::proofs::Judged::no_route, crate::proofs::Judged::judged))]
-fn judge_checked<'a>(
+fn judge_loaded<'a>(
     alloc: Global,
     asked: &JudgeWords<'a>,
-    checked: &CheckedIos,
+    policy: &LoadedPolicy,
     source: &[u8],
     route_text: &[u8],
 ) -> Result<Output, Fault<'a>>
-    requires { IsLoaded all_forms source.now asked.now.policy.now checked.now }
+    requires { Loads all_forms (source_in asked.now.language asked.now.policy.now source.now) (Loaded (policy_of policy.now)) }
     ensures { AnswersOn (Judge (judge_view asked.now)) (source.now ∷ route_text.now ∷ []) result }
 {
     match read_route(alloc, route_text) {
-        Ok(route) => match judge_route(alloc, checked, &route) {
+        Ok(route) => match judge_route(alloc, policy, &route) {
             Ok(text) => Ok(Output {
                 status: Status::Done,
                 text,
@@ -61,13 +63,23 @@ fn judge_checked<'a>(
     }
 }
 
-/// The text of what a checked policy makes of a route.
-fn judge_route(alloc: Global, checked: &CheckedIos, route: &Route) -> Result<Vec<u8>, Memory>
-    ensures { IfOk result (λ text. TellsOutcome checked.now route.now text.items) }
+/// The text of what a loaded policy makes of a route.
+fn judge_route(alloc: Global, policy: &LoadedPolicy, route: &Route) -> Result<Vec<u8>, Memory>
+    ensures { IfOk result (λ text. TellsOutcome (policy_of policy.now) route.now text.items) }
 {
-    match judge_ios(alloc, checked, route) {
+    match outcome_of(alloc, policy, route) {
         Ok(outcome) => outcome_text(alloc, &outcome),
         Err(fault) => Err(fault),
+    }
+}
+
+/// What a loaded policy makes of a route.
+fn outcome_of(alloc: Global, policy: &LoadedPolicy, route: &Route) -> Result<Outcome, Memory>
+    ensures { IfOk result (λ o. o ≡ meaning (policy_of policy.now) route.now) }
+{
+    match policy {
+        LoadedPolicy::Ios(checked) => judge_ios(alloc, checked, route),
+        LoadedPolicy::Junos(checked) => judge_junos(alloc, checked, route),
     }
 }
 

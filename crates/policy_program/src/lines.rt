@@ -1,13 +1,13 @@
 // The one line that a refusal puts on `err`, in pieces that take no memory.
 ghost use Rattle.std.specs.Prelude.{◌≡◌, [], ◌∷◌, codes, map};
 ghost use Rattle.policy_outside.specs.Sink.{joined};
-ghost use Rattle.policy_program.specs.Answer.{CannotRead, HasNoPolicy, IsOutside, IsTooLong, SpellsNoRoute, line_told, memory_line, unwritten_line, usage_line};
+ghost use Rattle.policy_program.specs.Answer.{CannotRead, HasNoPolicy, IsBroken, IsOutside, IsTooLong, SpellsNoRoute, kind_name, line_told, memory_line, place_line, unwritten_line, usage_line};
 ghost use Rattle.policy_program.specs.Ends.{ReceivedLine};
 
 use crate::place::Place;
 use itoa::Buffer;
 use policy_outside::{Sink, put_line};
-use policy_text::{Cause, cause_name};
+use policy_text::{BrokenKind, Cause, cause_name};
 
 /// Puts a line, whatever the sink does with it.
 #[tactic(auto, using(crate::proofs::Told::received_line))]
@@ -26,41 +26,72 @@ pub(crate) fn tell_usage<E: Sink>(err: &mut E)
 }
 
 /// Tells that no policy stands under the name.
-pub(crate) fn tell_no_policy<E: Sink>(err: &mut E, file: &str, policy: &str)
+pub(crate) fn tell_no_policy<E: Sink>(err: &mut E, file: &str, policy: &[u8])
     ensures { ReceivedLine (record { before = E.seen err.old; now = E.seen err.new }) (line_told file.now (HasNoPolicy policy.now)) }
 {
-    tell(
-        err,
-        &[file.as_bytes(), b": no policy ", policy.as_bytes(), b"\n"],
-    );
+    tell(err, &[file.as_bytes(), b": no policy ", policy, b"\n"]);
+}
+
+/// The name of a kind of breaks as it is printed: lower case, with dashes between its words.
+fn kind_name(kind: BrokenKind) -> &'static str
+    ensures { result.now ≡ kind_name kind }
+{
+    match kind {
+        BrokenKind::OpenQuote => "open-quote",
+        BrokenKind::OpenComment => "open-comment",
+        BrokenKind::OpenBrace => "open-brace",
+        BrokenKind::StrayBrace => "stray-brace",
+        BrokenKind::NoEnder => "no-ender",
+        BrokenKind::Misplaced => "misplaced",
+        BrokenKind::Unended => "unended",
+    }
+}
+
+/// Tells where and how the text of the file is broken.
+pub(crate) fn tell_broken<E: Sink>(err: &mut E, file: &str, place: Place, kind: BrokenKind)
+    ensures { ReceivedLine (record { before = E.seen err.old; now = E.seen err.new }) (line_told file.now (IsBroken place kind)) }
+{
+    tell_fault(err, file, place, b": broken: ", kind_name(kind));
 }
 
 /// Tells the first fault of a policy that lies outside the profile, at its place in the file.
 pub(crate) fn tell_outside<E: Sink>(err: &mut E, file: &str, place: Place, cause: Cause)
     ensures { ReceivedLine (record { before = E.seen err.old; now = E.seen err.new }) (line_told file.now (IsOutside place cause)) }
 {
+    tell_fault(err, file, place, b": outside: ", cause_name(cause));
+}
+
+/// Tells a fault of this sort and name at a place of the file.
+fn tell_fault<E: Sink>(err: &mut E, file: &str, place: Place, sort: &[u8], name: &str)
+    ensures { ReceivedLine (record { before = E.seen err.old; now = E.seen err.new }) (place_line file.now place sort.now name.now) }
+{
     let mut line = Buffer::new();
     let mut column = Buffer::new();
     let line = line.format(place.line);
     let column = column.format(place.column);
-    tell_fault(
+    tell_parts(
         err,
         file.as_bytes(),
         line.as_bytes(),
         column.as_bytes(),
-        cause_name(cause).as_bytes(),
+        sort,
+        name.as_bytes(),
     );
 }
 
-/// Tells a fault whose place and cause are printed.
-fn tell_fault<E: Sink>(err: &mut E, file: &[u8], line: &[u8], column: &[u8], cause: &[u8])
+/// Tells a fault whose place is printed.
+fn tell_parts<E: Sink>(
+    err: &mut E,
+    file: &[u8],
+    line: &[u8],
+    column: &[u8],
+    sort: &[u8],
+    name: &[u8],
+)
     ensures { ReceivedLine (record { before = E.seen err.old; now = E.seen err.new })
-        (joined (file.now ∷ codes ":" ∷ line.now ∷ codes ":" ∷ column.now ∷ codes ": outside: " ∷ cause.now ∷ codes "\n" ∷ [])) }
+        (joined (file.now ∷ codes ":" ∷ line.now ∷ codes ":" ∷ column.now ∷ sort.now ∷ name.now ∷ codes "\n" ∷ [])) }
 {
-    tell(
-        err,
-        &[file, b":", line, b":", column, b": outside: ", cause, b"\n"],
-    );
+    tell(err, &[file, b":", line, b":", column, sort, name, b"\n"]);
 }
 
 /// Tells that the file could not be read.

@@ -1,6 +1,6 @@
 // Why a request has no result.
 use crate::place::Place;
-use policy_text::Cause;
+use policy_text::{BrokenKind, Cause};
 
 /// What a refusal tells of a file.
 #[derive(Clone, Copy, Debug, PartialEq, Eq)]
@@ -9,8 +9,10 @@ pub enum Told<'a> {
     CannotRead,
     /// It has more than 16,777,216 bytes.
     IsTooLong,
+    /// Its text is broken here, so that it has no tree.
+    IsBroken { place: Place, kind: BrokenKind },
     /// No policy stands under this name in it.
-    HasNoPolicy { policy: &'a str },
+    HasNoPolicy { policy: &'a [u8] },
     /// The policy lies outside the profile, or has a statement of a form that the verb does not take;
     /// this is its first fault, with its place.
     IsOutside { place: Place, cause: Cause },

@@ -9,8 +9,8 @@ ghost use Rattle.policy_program.specs.Layers.{AnswersRequest, IsWellNamed, Write
 
 use crate::command::{Request, WordsFault, read_words};
 use crate::lines::{
-    tell_memory, tell_no_policy, tell_not_route, tell_outside, tell_too_long, tell_unread,
-    tell_unwritten, tell_usage,
+    tell_broken, tell_memory, tell_no_policy, tell_not_route, tell_outside, tell_too_long,
+    tell_unread, tell_unwritten, tell_usage,
 };
 use crate::refusal::{Fault, Refusal, Told};
 use crate::request::{Output, answer};
@@ -118,6 +118,10 @@ fn refuse<E: Sink>(refusal: &Refusal<'_>, err: &mut E) -> Status
         Told::IsTooLong => {
             tell_too_long(err, refusal.file);
             Status::TooLong
+        }
+        Told::IsBroken { place, kind } => {
+            tell_broken(err, refusal.file, place, kind);
+            Status::Broken
         }
         Told::HasNoPolicy { policy } => {
             tell_no_policy(err, refusal.file, policy);

@@ -11,13 +11,12 @@ ghost use Rattle.policy_program.specs.Layers.{AnswersOn, TranslatesTo};
 
 use crate::command::TranslateWords;
 use crate::first_forms::FirstForms;
-use crate::load::{load_ios, refused_load};
+use crate::load::{LoadFault, load_ios, refused_load};
 use crate::refusal::Fault;
 use crate::request::Output;
 use crate::status::Status;
 use crate::write::write_policy;
 use ios_reader::CheckedIos;
-use policy_text::CheckFault;
 use std::alloc::Global;
 
 /// The text that says in RPL, under `name`, what a checked policy says.
@@ -26,16 +25,16 @@ fn written_policy(
     checked: &CheckedIos,
     policy: &[u8],
     name: &[u8],
-) -> Result<Vec<u8>, CheckFault>
+) -> Result<Vec<u8>, LoadFault>
     requires taken { first_fault_within is_first_form policy.now checked.now.items ≡ None }
     requires plain { AllByRecursion HasPlainForm checked.now.items }
     requires named { is_new_name name.now ≡ true }
-    ensures { MatchResult result (λ text. Writes checked.now.items policy.now text.items name.now) (λ fault. fault ≡ CheckFault.Memory) }
+    ensures { MatchResult result (λ text. Writes checked.now.items policy.now text.items name.now) (λ fault. fault ≡ LoadFault.Memory) }
 {
     let items = checked.tree().items();
     match write_policy(alloc, items, policy, name) {
         Ok(text) => Ok(text),
-        Err(_) => Err(CheckFault::Memory),
+        Err(_) => Err(LoadFault::Memory),
     }
 }
 
@@ -50,7 +49,7 @@ pub fn translate(
     source: &[u8],
     policy: &[u8],
     name: &[u8],
-) -> Result<Vec<u8>, CheckFault>
+) -> Result<Vec<u8>, LoadFault>
     requires { is_new_name name.now ≡ true }
     ensures { TranslatesTo source.now policy.now name.now result }
 {
@@ -74,6 +73,6 @@ pub(crate) fn translate_text<'a>(
             status: Status::Done,
             text: written,
         }),
-        Err(fault) => Err(refused_load(asked.file, asked.policy, text, fault)),
+        Err(fault) => Err(refused_load(asked.file, &[asked.policy.as_bytes()], text, fault)),
     }
 }

@@ -1,8 +1,10 @@
 // The forms of words that name policies.
-ghost use Rattle.std.specs.Prelude.{◌≡◌};
+ghost use Rattle.std.specs.Prelude.{◌≡◌, Some};
 ghost use Rattle.std.specs.List.{list_all};
 ghost use Rattle.rpl_written.specs.Written.{is_letter, is_name_byte, is_new_name};
-ghost use Rattle.policy_program.specs.Words.{is_policy_byte, is_policy_word};
+ghost use Rattle.policy_program.specs.Words.{is_policy_byte, is_policy_word, is_policy_word_of};
+
+use crate::language::{Language, are_given};
 
 fn is_policy_byte(byte: u8) -> bool
     ensures { result ≡ is_policy_byte byte }
@@ -21,6 +23,13 @@ pub fn is_policy_word(word: &[u8]) -> bool
     ensures { result ≡ is_policy_word word.now }
 {
     !word.is_empty() && are_policy_bytes(word)
+}
+
+/// Whether a word names policies of a source in a language.
+pub fn is_policy_word_of(language: Language, word: &[u8]) -> bool
+    ensures { result ≡ is_policy_word_of (Some language) word.now }
+{
+    is_policy_word(word) && are_given(language, word)
 }
 
 fn is_letter(byte: u8) -> bool

@@ -5,6 +5,8 @@
 #[cfg(test)]
 mod causes;
 #[cfg(test)]
+mod chains;
+#[cfg(test)]
 mod customer;
 #[cfg(test)]
 mod not_taken;

@@ -14,15 +14,18 @@ mod set_lines;
 
 /// What is made of a route.
 #[derive(Clone, Copy)]
-enum Verdict {
+pub enum Verdict {
     /// It is rejected.
     Reject,
     /// It is accepted, and these of its lines differ from those that it came with.
     Accept(&'static [&'static str]),
 }
 
-/// A policy IN, and what it makes of routes, each by the lines that differ from the plain route's.
-type Policy = (&'static str, &'static [(&'static [&'static str], Verdict)]);
+/// What is made of routes, each by the lines that differ from the plain route's.
+pub type Routes = &'static [(&'static [&'static str], Verdict)];
+
+/// A policy IN, and what it makes of routes.
+type Policy = (&'static str, Routes);
 
 /// The text of an outcome for the route with the lines `given`.
 fn outcome_text(alloc: Global, given: &[&'static str], verdict: Verdict) -> Result<String, Fail> {
@@ -35,9 +38,10 @@ fn outcome_text(alloc: Global, given: &[&'static str], verdict: Verdict) -> Resu
     }
 }
 
-/// The policy makes this of the route with the lines `given`.
-fn makes(
+/// The policy that these words of a judge name makes this of the route with the lines `given`.
+pub fn makes(
     rt: &(impl Abort + AllocGlobal),
+    words: &str,
     policy: &str,
     given: &[&'static str],
     verdict: Verdict,
@@ -45,7 +49,7 @@ fn makes(
     let route = route_text(rt.alloc(), given, &[])?;
     let outcome = outcome_text(rt.alloc(), given, verdict)?;
     let texts = judge_texts(policy, route.as_str());
-    shows(rt, &unfailing(JUDGE, &texts), (0, outcome.as_str(), ""))
+    shows(rt, &unfailing(words, &texts), (0, outcome.as_str(), ""))
 }
 
 /// The texts of a judge: the source, and the route.
@@ -57,7 +61,7 @@ fn judge_texts<'a>(policy: &'a str, route: &'a str) -> [(&'a str, &'a str); 2] {
 fn judged(rt: &(impl Abort + AllocGlobal), rows: &[Policy]) -> Result<(), Fail> {
     for (policy, routes) in rows {
         for (given, verdict) in *routes {
-            makes(rt, policy, given, *verdict)?;
+            makes(rt, JUDGE, policy, given, *verdict)?;
         }
     }
     Ok(())

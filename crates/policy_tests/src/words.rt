@@ -75,6 +75,18 @@ fn words_that_ask(rt: HostRuntime) -> Result<(), Fail> {
             "judge --from ios --policy A,B,C in.cfg r.txt",
             "in.cfg: no policy A,B,C",
         ),
+        (
+            "judge --from junos --policy A,B,C in.cfg r.txt",
+            "in.cfg: no policy A",
+        ),
+        (
+            "judge --policy=A-B in.cfg r.txt --from=junos",
+            "in.cfg: no policy A-B",
+        ),
+        (
+            "judge --from ios --policy A,,B in.cfg r.txt",
+            "in.cfg: no policy A,,B",
+        ),
     ] {
         let status = if line.ends_with("read") { 6 } else { 4 };
         shows(&rt, &unfailing(words, &SOURCES), (status, "", line))?;
@@ -103,7 +115,14 @@ fn words_of_no_request(rt: HostRuntime) -> Result<(), Fail> {
         "judge --from ios in.cfg r.txt --policy",
         "judge --from ios --policy IN in.cfg",
         "judge --from ios --policy IN in.cfg r.txt r.txt",
-        "judge --from junos --policy IN in.cfg r.txt",
+        "judge --from rpl --policy IN in.cfg r.txt",
+        "judge --from Junos --policy IN in.cfg r.txt",
+        "judge --from junos --policy A,,B in.cfg r.txt",
+        "judge --from junos --policy ,A in.cfg r.txt",
+        "judge --from junos --policy A, in.cfg r.txt",
+        "judge --from junos --policy , in.cfg r.txt",
+        "judge --from junos --policy= in.cfg r.txt",
+        "translate --from junos --policy IN --to rpl --as in in.cfg",
         "judge --fro ios --policy IN in.cfg r.txt",
         "judge --from ios --policy=I\"N in.cfg r.txt",
         "judge --from ios --policy= in.cfg r.txt",
