@@ -3,3 +3,8 @@ pub mod Facts
 pub mod Causes
 pub mod Reach
 pub mod Profile
+pub mod Sets
+pub mod Known
+pub mod Holding
+pub mod Holds
+pub mod Faults

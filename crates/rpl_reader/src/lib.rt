@@ -4,8 +4,18 @@
 //! itself (`Causes`), what is reached (`Reach`), and all faults with the first of them (`Profile`).
 #![tactic(auto)]
 
+mod causes;
+mod check;
 mod checked;
+mod depth;
+mod faults;
+mod given;
+mod items;
+mod known;
 mod laws;
+mod sets;
+mod state;
 
+pub use check::check_rpl;
 pub use checked::CheckedRpl;
 pub use laws::first_fault_is_least;

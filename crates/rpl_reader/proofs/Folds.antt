@@ -1,0 +1,70 @@
+-- The first of all faults that are met: it is one of them, and it comes before each of them.
+use Rattle.std.proofs.Common.{◌≡◌, refl, sym, subst, ℕ, Bool, inl, inr, List, [], ◌∷◌, Option}
+use Rattle.step_search.specs.Found.{IsIn}
+use Rattle.text_words.specs.declared.rpl_blocks.BlockKind.{BlockKind}
+use Rattle.policy_text.specs.Causes.{behind, Place}
+use Rattle.rpl_forms.specs.declared.item.RplItem.{RplItem}
+use Rattle.rpl_calls.specs.Calls.{CallParts}
+use Rattle.rpl_calls.specs.declared.demand.Demand.{Demand}
+use Rattle.rpl_reader.specs.Facts.{Facts, before_of}
+use Rattle.rpl_reader.specs.Faults.{Fault, earlier, is_open_reached, item_fault, earliest_item, given_fault, earliest_given}
+use Rattle.rpl_reader.proofs.Earlier.{Keeps, IsAhead, both_keep, ahead_left, ahead_right}
+
+-- ---- faults of arguments
+
+module _ (facts : Facts) (reached : List ℕ → Bool) (calls : List CallParts) where
+  abbrev fault_of : Demand → Option Fault
+  fault_of d = given_fault facts reached calls d
+
+  pub given_keeps : (P : Fault → Type 0) (found : Option Fault) (ds : List Demand) → Keeps P found → ((d : Demand) → IsIn d ds → Keeps P (fault_of d)) → Keeps P (earliest_given facts reached calls found ds)
+  unfolding earliest_given
+  given_keeps P found [] keeps each = keeps
+  given_keeps P found (d ∷ ds) keeps each = given_keeps P (earlier found (fault_of d)) ds (both_keep P found (fault_of d) keeps (each d (inl refl))) (λ e there. each e (inr there))
+
+  given_after : (h : Fault) (found : Option Fault) (ds : List Demand) → IsAhead found h → IsAhead (earliest_given facts reached calls found ds) h
+  unfolding earliest_given
+  given_after h found [] first = first
+  given_after h found (d ∷ ds) first = given_after h (earlier found (fault_of d)) ds (ahead_left found (fault_of d) h first)
+
+  pub given_ahead : (h : Fault) (found : Option Fault) (ds : List Demand) (d : Demand) → IsIn d ds → IsAhead (fault_of d) h → IsAhead (earliest_given facts reached calls found ds) h
+  unfolding earliest_given
+  given_ahead h found [] d there first = absurd there
+  given_ahead h found (e ∷ ds) d (inl is) first = given_after h (earlier found (fault_of e)) ds (ahead_right found (fault_of e) h (subst (λ (x : Demand). IsAhead (fault_of x) h) is first))
+  given_ahead h found (e ∷ ds) d (inr more) first = given_ahead h (earlier found (fault_of e)) ds d more first
+
+-- ---- faults of items
+
+module _ (policy : List ℕ) (facts : Facts) (reached : BlockKind → List ℕ → Bool) where
+  -- the fault of an item behind these
+  abbrev pub fault_behind : List RplItem → RplItem → Option Fault
+  fault_behind before i = item_fault policy facts (before_of before) (is_open_reached reached (i ∷ before)) i
+
+  -- the first fault from an item on
+  abbrev from : Option Fault → List RplItem → List RplItem → Option Fault
+  from found before rest = earliest_item policy facts reached found (before_of before) (is_open_reached reached before) rest
+
+  pub items_keep : (P : Fault → Type 0) (all : List RplItem) → ((p : Place all) → Keeps P (fault_behind p.before p.item)) → (found : Option Fault) (before rest : List RplItem) → all ≡ behind before rest → Keeps P found → Keeps P (from found before rest)
+  unfolding earliest_item
+  items_keep P all each found before [] is keeps = keeps
+  items_keep P all each found before (i ∷ is) same keeps =
+      items_keep P all each (earlier found (fault_behind before i)) (i ∷ before) is same
+      (both_keep P found (fault_behind before i) keeps (each (record { before = before; item = i; rest = is; is = same })))
+
+  pub items_after : (h : Fault) (found : Option Fault) (before rest : List RplItem) → IsAhead found h → IsAhead (from found before rest) h
+  unfolding earliest_item
+  items_after h found before [] first = first
+  items_after h found before (i ∷ is) first = items_after h (earlier found (fault_behind before i)) (i ∷ before) is (ahead_left found (fault_behind before i) h first)
+
+  -- what comes first from an item on comes first in the whole
+  from_start : (h : Fault) (before rest : List RplItem) → ((found : Option Fault) → IsAhead (from found before rest) h) → (found : Option Fault) → IsAhead (from found [] (behind before rest)) h
+  unfolding earliest_item
+  from_start h [] rest first = first
+  from_start h (i ∷ before) rest first = from_start h before (i ∷ rest) (λ found. first (earlier found (fault_behind before i)))
+
+  at_place : (h : Fault) (before rest : List RplItem) (i : RplItem) → IsAhead (fault_behind before i) h → (found : Option Fault) → IsAhead (from found before (i ∷ rest)) h
+  unfolding earliest_item
+  at_place h before rest i first found = items_after h (earlier found (fault_behind before i)) (i ∷ before) rest (ahead_right found (fault_behind before i) h first)
+
+  pub items_ahead : (h : Fault) (all : List RplItem) (p : Place all) → IsAhead (fault_behind p.before p.item) h → (found : Option Fault) → IsAhead (from found [] all) h
+  items_ahead h all p first found =
+      subst (λ (xs : List RplItem). IsAhead (from found [] xs) h) (sym p.is) (from_start h p.before (p.item ∷ p.rest) (at_place h p.before p.rest p.item first) found)
