@@ -1,0 +1,5 @@
+pub mod FittedAfter
+pub mod JoinedLaws
+pub mod KeptLaws
+pub mod Tails
+mod Examples

@@ -1,0 +1,9 @@
+use Rattle.std.proofs.Common.{length}
+use Rattle.community_cuts.specs.Kept.{RectsSoFar}
+use Rattle.community_cuts.proofs.kept.rects_before.Given as goal
+
+abbrev pub invariant-loop-rest : goal.invariant-loop-rest
+invariant-loop-rest l = RectsSoFar l.rects l.kept l.rest l.change
+
+abbrev pub decreases-loop-rest : goal.decreases-loop-rest
+decreases-loop-rest l = length l.rest
