@@ -1,0 +1,11 @@
+use Rattle.std.proofs.Common.{◌≡◌, length}
+use Rattle.std.specs.Prelude.{map}
+use Rattle.rpl_meaning.specs.Blocks.{word_in}
+use Rattle.rpl_meaning.specs.Conditions.{some_holds}
+use Rattle.rpl_meaning.proofs.tests.some_holds.Given as goal
+
+abbrev pub decreases-loop-rest : goal.decreases-loop-rest
+decreases-loop-rest l = length l.rest
+
+abbrev pub invariant-loop-rest : goal.invariant-loop-rest
+invariant-loop-rest l = some_holds (word_in l.words.entries) (map (λ e. e.now) l.rest) l.prefix ≡ some_holds (word_in l.words.entries) (map (λ e. e.now) l.elements) l.prefix
