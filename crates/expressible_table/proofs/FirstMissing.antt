@@ -7,7 +7,8 @@ use Rattle.expressible_table.specs.declared.kind.Dialect.{Dialect}
 
 -- ---- what is found
 
-first_by : (target : Dialect) (c : Construct) (cs : List Construct) (o : Option Construct) (b : Bool) → grants c.kind target ≡ b → LacksFirst target cs o → LacksFirst target (c ∷ cs) (elim b [ true ↦ o | false ↦ Some c ])
+first_by : (target : Dialect) (c : Construct) (cs : List Construct) (o : Option Construct) (b : Bool) → grants c.kind target ≡ b → LacksFirst target cs o
+    → LacksFirst target (c ∷ cs) (elim b [ true ↦ o | false ↦ Some c ])
 first_by target c cs None true e h = (e, h)
 first_by target c cs (Some d) true e h = record {
   before = c ∷ h.before;

@@ -1,5 +1,5 @@
 -- What the lines of a policy test and set can be said where the table grants them.
-use Rattle.std.proofs.Common.{◌≡◌, refl, ℕ, Bool, true, false, ◌&&◌, ◌||◌, List, [], ◌∷◌}
+use Rattle.std.proofs.Common.{◌≡◌, refl, ℕ, Bool, true, false, ◌&&◌, ◌||◌, List, [], ◌∷◌, Option}
 use Rattle.std.specs.Prelude.{IfSome, map}
 use Rattle.std.specs.List.{list_all, list_any, AllByRecursion}
 use Rattle.route_types.specs.declared.address.Address.{Address}
@@ -33,7 +33,7 @@ use Rattle.expressible_table.specs.declared.kind.Dialect.TheVariants.{Ios, Junos
 use Rattle.expressible_table.specs.declared.kind.Kind.TheVariants.{NextHopAddressTest, NextHopRangeTest, CommunityRange, CommunityDelete}
 use Rattle.expressible_table.specs.declared.kind.Kind.TheVariants.{SetWeight as WeightKind}
 use Rattle.granted_policies.proofs.Lists.{all_backwards}
-use Rattle.granted_policies.proofs.Written.{IsWrittenLine, IsWritten}
+use Rattle.granted_policies.proofs.Written.{IsWrittenLine, AreWritten}
 use Rattle.granted_policies.proofs.Lines.{IsGrantedLine}
 use Rattle.granted_policies.proofs.Standard.{IsStandardLine, exact_standard}
 use Rattle.granted_policies.proofs.Prefixes.{lists_range, lists_full}
@@ -58,6 +58,10 @@ pub record IsKnown (target : Dialect) (name : List ℕ) (all : List IosItem) (l 
 
 -- ---- tests
 
+-- what a line tests can be said, if it tests something
+abbrev TestSaid : Dialect → Option Atom → Type 0
+TestSaid target o = IfSome o (λ a. atom_says target a ≡ true)
+
 either_left : (a b : Bool) → a ≡ true → (a || b) ≡ true
 either_left a b h = rw h refl
 
@@ -69,17 +73,17 @@ not_short : (b : Bool) → grants (elim b [ true ↦ NextHopRangeTest | false �
 not_short true h = absurd cc
 not_short false h = refl
 
-prefix_says : (target : Dialect) (all : List IosItem) (m : PrefixMatch) → AllByRecursion IsWritten all → IfSome (atom_of all (MatchPrefix m)) (λ a. atom_says target a ≡ true)
+prefix_says : (target : Dialect) (all : List IosItem) (m : PrefixMatch) → AreWritten all → TestSaid target (atom_of all (MatchPrefix m))
 prefix_says Ios all m w = lists_range all m.family m.lists w
 prefix_says Junos all m w = lists_range all m.family m.lists w
 prefix_says Rpl all m w = lists_range all m.family m.lists w
 
-hop_says : (target : Dialect) (all : List IosItem) (m : PrefixMatch) → AllByRecursion IsWritten all → m.family ≡ V4 → grants (hop_kind all m) target ≡ true → IfSome (atom_of all (MatchNextHop m)) (λ a. atom_says target a ≡ true)
+hop_says : (target : Dialect) (all : List IosItem) (m : PrefixMatch) → AreWritten all → m.family ≡ V4 → grants (hop_kind all m) target ≡ true → TestSaid target (atom_of all (MatchNextHop m))
 hop_says Ios all m w e h = lists_range all m.family m.lists w
 hop_says Junos all m w e h = lists_full all m.family m.lists e w (not_short (list_any (has_short all m.family) m.lists) h)
 hop_says Rpl all m w e h = lists_range all m.family m.lists w
 
-community_by : (target : Dialect) (name : List ℕ) (all : List IosItem) (exact : Bool) (lists : List (List ℕ)) → AllByRecursion IsWritten all → grants (community_kind exact) target ≡ true
+community_by : (target : Dialect) (name : List ℕ) (all : List IosItem) (exact : Bool) (lists : List (List ℕ)) → AreWritten all → grants (community_kind exact) target ≡ true
     → (exact && list_any (λ list. (facts_of name all).marked CommunityListSort list 1) lists) ≡ false → atom_says target (Community (map (community_list_of exact all) lists)) ≡ true
 community_by Rpl name all false lists w g h = lists_all_of all lists
 community_by Rpl name all true lists w g h = absurd cc
@@ -92,7 +96,7 @@ community_by Ios name all true lists w g h =
     let made = map (community_list_of true all) lists in
     either_right (lists_are is_plain_all_of made) (lists_are is_exactly made) (lists_exactly all lists (exact_standard all lists h))
 
-pub line_tests : (target : Dialect) (name : List ℕ) (all : List IosItem) (l : MapLine) → AllByRecursion IsWritten all → IsKnown target name all l → IfSome (atom_of all l) (λ a. atom_says target a ≡ true)
+pub line_tests : (target : Dialect) (name : List ℕ) (all : List IosItem) (l : MapLine) → AreWritten all → IsKnown target name all l → TestSaid target (atom_of all l)
 line_tests target name all (MatchPrefix m) w k = prefix_says target all m w
 line_tests target name all (MatchNextHop m) w k = hop_says target all m w k.written k.granted
 line_tests target name all (MatchCommunity m) w k = community_by target name all m.exact m.lists w k.granted k.standard
@@ -179,20 +183,20 @@ no_deny Ios true p h = absurd cc
 no_deny Junos true p h = absurd cc
 no_deny Rpl true p h = absurd p
 
-removed_says : (target : Dialect) (all : List IosItem) (list : List ℕ) (c : CommChange) → AllByRecursion IsWritten all → grants (deletion_kind all list) target ≡ true → Deletes all list (Communities c)
+removed_says : (target : Dialect) (all : List IosItem) (list : List ℕ) (c : CommChange) → AreWritten all → grants (deletion_kind all list) target ≡ true → Deletes all list (Communities c)
     → change_says target (Communities c) ≡ true
 removed_says Ios all list c w g d = taken_plain all list c.removed w (no_deny Ios (has_deny all list) tt g) d.1
 removed_says Junos all list c w g d = taken_plain all list c.removed w (no_deny Junos (has_deny all list) tt g) d.1
 removed_says Rpl all list c w g d = refl
 
-deletion_says : (target : Dialect) (all : List IosItem) (list : List ℕ) (c : Change) → AllByRecursion IsWritten all → grants (deletion_kind all list) target ≡ true → Deletes all list c → change_says target c ≡ true
+deletion_says : (target : Dialect) (all : List IosItem) (list : List ℕ) (c : Change) → AreWritten all → grants (deletion_kind all list) target ≡ true → Deletes all list c → change_says target c ≡ true
 deletion_says target all list (Communities c) w g d = removed_says target all list c w g d
 deletion_says target all list _ w g d = absurd d
 
 one_says : (target : Dialect) (name : List ℕ) (all : List IosItem) (l : MapLine) (c : Change) → IsKnown target name all l → SomeOf (λ d. c ≡ d) (changes_of l) → change_says target c ≡ true
 one_says target name all l c k h = one_of_all (λ d. change_says target d ≡ true) c (changes_of l) (own_said target name all l k) h
 
-pub line_sets : (target : Dialect) (name : List ℕ) (all : List IosItem) (l : MapLine) (c : Change) → AllByRecursion IsWritten all → IsKnown target name all l → IsChangeOf all l c → change_says target c ≡ true
+pub line_sets : (target : Dialect) (name : List ℕ) (all : List IosItem) (l : MapLine) (c : Change) → AreWritten all → IsKnown target name all l → IsChangeOf all l c → change_says target c ≡ true
 line_sets target name all (DeleteCommunities list) c w k h = deletion_says target all list c w k.granted h
 line_sets target name all (MatchPrefix m) c w k h = one_says target name all (MatchPrefix m) c k h
 line_sets target name all (MatchNextHop m) c w k h = one_says target name all (MatchNextHop m) c k h

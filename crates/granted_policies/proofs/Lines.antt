@@ -91,7 +91,8 @@ module _ (target : Dialect) (all : List IosItem) where
   header_granted false m span lines entries cs rest more behind h = behind h
 
   entry_granted : (name : List ℕ) (form : IosForm) (span : Span) (lines : List MapLine) (entries : List Entry) (cs rest : List Construct) → (AllGranted target cs → Lines lines rest)
-      → (AllGranted target rest → AreSuch (IsGrantedLine target all) entries) → AllGranted target (put_entry name form span cs rest) → AreSuch (IsGrantedLine target all) (entry_from name form lines entries)
+      → (AllGranted target rest → AreSuch (IsGrantedLine target all) entries) → AllGranted target (put_entry name form span cs rest)
+      → AreSuch (IsGrantedLine target all) (entry_from name form lines entries)
   entry_granted name (MapHeader m) span lines entries cs rest more behind h = header_granted (bytes_eq name m.map) m span lines entries cs rest more behind h
   entry_granted name _ span lines entries cs rest more behind h = behind h
 

@@ -17,11 +17,12 @@ use Rattle.ios_meaning.specs.Order.{in_order}
 use Rattle.ios_lower.specs.Atoms.{prefix_list_of}
 use Rattle.expressible_table.specs.Kinds.{is_short, has_short}
 use Rattle.granted_policies.proofs.Lists.{both_true, made_pass, none_passes, all_in_order}
-use Rattle.granted_policies.proofs.Written.{HasRange, IsWritten, IsWrittenForm}
+use Rattle.granted_policies.proofs.Written.{HasRange, AreWritten, IsWrittenForm}
 
 -- ---- in range
 
-range_from : (family : Family) (list : List ℕ) (form : IosForm) (es : List PrefixListEntry) → IsWrittenForm form → AllByRecursion HasRange es → AllByRecursion HasRange (prefix_entry_from family list form es)
+range_from : (family : Family) (list : List ℕ) (form : IosForm) (es : List PrefixListEntry) → IsWrittenForm form → AllByRecursion HasRange es
+    → AllByRecursion HasRange (prefix_entry_from family list form es)
 range_from family list (PrefixEntry e) es here more = by (is_of_list family list e)
   where
     by : (b : Bool) → AllByRecursion HasRange (elim b [ true ↦ e ∷ es | false ↦ es ])
@@ -29,7 +30,7 @@ range_from family list (PrefixEntry e) es here more = by (is_of_list family list
     by false = more
 range_from family list _ es here more = more
 
-entries_in_range : (family : Family) (list : List ℕ) (is : List IosItem) → AllByRecursion IsWritten is → AllByRecursion HasRange (prefix_entries family list is)
+entries_in_range : (family : Family) (list : List ℕ) (is : List IosItem) → AreWritten is → AllByRecursion HasRange (prefix_entries family list is)
 entries_in_range family list [] h = tt
 entries_in_range family list (i ∷ is) h = range_from family list i.form (prefix_entries family list is) h.0 (entries_in_range family list is h.1)
 
@@ -38,14 +39,15 @@ ordered_pass : (p : PrefixListEntry → Bool) (all : List IosItem) (family : Fam
     → AllByRecursion (λ e. p e ≡ true) (in_order (λ e. e.number) (prefix_entries family list all))
 ordered_pass p all family list h = all_in_order (λ e. p e ≡ true) (λ e. e.number) (prefix_entries family list all) h
 
-pub list_range : (all : List IosItem) (family : Family) (list : List ℕ) → AllByRecursion IsWritten all → list_in_range (prefix_list_of all family list) ≡ true
+pub list_range : (all : List IosItem) (family : Family) (list : List ℕ) → AreWritten all → list_in_range (prefix_list_of all family list) ≡ true
 list_range all family list h =
     made_pass (λ e. e.entry) (λ e. prefix_in_range e.range.prefix) (in_order (λ e. e.number) (prefix_entries family list all))
     (ordered_pass (λ e. prefix_in_range e.entry.range.prefix) all family list (entries_in_range family list all h))
 
-pub lists_range : (all : List IosItem) (family : Family) (lists : List (List ℕ)) → AllByRecursion IsWritten all → list_all list_in_range (map (prefix_list_of all family) lists) ≡ true
+pub lists_range : (all : List IosItem) (family : Family) (lists : List (List ℕ)) → AreWritten all → list_all list_in_range (map (prefix_list_of all family) lists) ≡ true
 lists_range all family [] h = refl
-lists_range all family (list ∷ lists) h = both_true (list_in_range (prefix_list_of all family list)) (list_all list_in_range (map (prefix_list_of all family) lists)) (list_range all family list h) (lists_range all family lists h)
+lists_range all family (list ∷ lists) h =
+    both_true (list_in_range (prefix_list_of all family list)) (list_all list_in_range (map (prefix_list_of all family) lists)) (list_range all family list h) (lists_range all family lists h)
 
 -- ---- of full length
 
@@ -74,7 +76,7 @@ list_full all list h =
     made_pass (λ e. e.entry) (λ e. e.range.prefix.length == 32) (in_order (λ e. e.number) (prefix_entries V4 list all))
     (ordered_pass (λ e. e.entry.range.prefix.length == 32) all V4 list (entries_full list all (none_passes (λ i. is_short V4 list i.form) all h)))
 
-lists_by : (all : List IosItem) (lists : List (List ℕ)) → AllByRecursion IsWritten all → AllByRecursion (λ list. has_short all V4 list ≡ false) lists
+lists_by : (all : List IosItem) (lists : List (List ℕ)) → AreWritten all → AllByRecursion (λ list. has_short all V4 list ≡ false) lists
     → list_all (λ l. list_in_range l && is_full_length l) (map (prefix_list_of all V4) lists) ≡ true
 lists_by all [] w h = refl
 lists_by all (list ∷ lists) w h =
@@ -82,7 +84,7 @@ lists_by all (list ∷ lists) w h =
     both_true (list_in_range l && is_full_length l) (list_all (λ (m : PrefixList). list_in_range m && is_full_length m) (map (prefix_list_of all V4) lists))
     (both_true (list_in_range l) (is_full_length l) (list_range all V4 list w) (list_full all list h.0)) (lists_by all lists w h.1)
 
-pub lists_full : (all : List IosItem) (family : Family) (lists : List (List ℕ)) → family ≡ V4 → AllByRecursion IsWritten all → list_any (has_short all family) lists ≡ false
+pub lists_full : (all : List IosItem) (family : Family) (lists : List (List ℕ)) → family ≡ V4 → AreWritten all → list_any (has_short all family) lists ≡ false
     → list_all (λ l. list_in_range l && is_full_length l) (map (prefix_list_of all family) lists) ≡ true
 lists_full all V4 lists e w h = lists_by all lists w (none_passes (has_short all V4) lists h)
 lists_full all _ lists e w h = absurd cc

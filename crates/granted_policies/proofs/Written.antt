@@ -59,6 +59,9 @@ IsWrittenForm _ = Unit {0}
 abbrev pub IsWritten : IosItem → Type 0
 IsWritten i = IsWrittenForm i.form
 
+abbrev pub AreWritten : List IosItem → Type 0
+AreWritten is = AllByRecursion IsWritten is
+
 -- ---- words
 
 in_range_by : (family : Family) (bits : ℕ) → family ≡ V4 → bits < 2 ^ width family → (same_family V4 family && nat_lt bits (2 ^ 32)) ≡ true
@@ -82,7 +85,8 @@ half_plain word least most (inr (spelled, none, greatest)) = all_half least most
 
 shape_plain : (word : List ℕ) (r : RectParts) → IsShape word r → is_plain r ≡ true
 shape_plain word r h =
-    both_true (is_plain_half r.high_least r.high_most) (is_plain_half r.low_least r.low_most) (half_plain h.high r.high_least r.high_most h.high_half) (half_plain h.low r.low_least r.low_most h.low_half)
+    both_true (is_plain_half r.high_least r.high_most) (is_plain_half r.low_least r.low_most)
+    (half_plain h.high r.high_least r.high_most h.high_half) (half_plain h.low r.low_least r.low_most h.low_half)
 
 -- ---- forms
 
@@ -123,13 +127,13 @@ form_of_written sort words = other_written sort words (known_form sort words) (k
 
 -- ---- items
 
-kept_written : (b : Bool) (s : Statement) (sort : ItemSort) (kept dropped : List IosItem) → AllByRecursion IsWritten kept → AllByRecursion IsWritten dropped
-    → AllByRecursion IsWritten (elim b [ true ↦ record { form = form_of sort (texts s.words); span = s.span } ∷ kept | false ↦ dropped ])
+kept_written : (b : Bool) (s : Statement) (sort : ItemSort) (kept dropped : List IosItem) → AreWritten kept → AreWritten dropped
+    → AreWritten (elim b [ true ↦ record { form = form_of sort (texts s.words); span = s.span } ∷ kept | false ↦ dropped ])
 kept_written true s sort kept dropped k d = (form_of_written sort (texts s.words), k)
 kept_written false s sort kept dropped k d = d
 
-sorted_written : (entry_open : Bool) (s : Statement) (o : Option ItemSort) (ss : List Statement) → ((b : Bool) → AllByRecursion IsWritten (items_of b ss))
-    → AllByRecursion IsWritten (elim o [
+sorted_written : (entry_open : Bool) (s : Statement) (o : Option ItemSort) (ss : List Statement) → ((b : Bool) → AreWritten (items_of b ss))
+    → AreWritten (elim o [
       | None ↦ items_of false ss
       | Some sort ↦ elim (belongs entry_open sort) [
         | true ↦ record { form = form_of sort (texts s.words); span = s.span } ∷ items_of (opens sort) ss
@@ -139,7 +143,7 @@ sorted_written : (entry_open : Bool) (s : Statement) (o : Option ItemSort) (ss :
 sorted_written entry_open s None ss behind = behind false
 sorted_written entry_open s (Some sort) ss behind = kept_written (belongs entry_open sort) s sort (items_of (opens sort) ss) (items_of false ss) (behind (opens sort)) (behind false)
 
-items_written : (ss : List Statement) (entry_open : Bool) → AllByRecursion IsWritten (items_of entry_open ss)
+items_written : (ss : List Statement) (entry_open : Bool) → AreWritten (items_of entry_open ss)
 unfolding items_of
 items_written [] entry_open = tt
 items_written (s ∷ ss) entry_open = sorted_written entry_open s (sort_of s.depth (texts s.words)) ss (items_written ss)
@@ -167,11 +171,11 @@ numbered_written before (PathEntry e) h = tt
 numbered_written before (MapHeader m) h = tt
 numbered_written before (Other o) h = tt
 
-items_numbered_written : (is before : List IosItem) → AllByRecursion IsWritten is → AllByRecursion IsWritten (numbered_from before is)
+items_numbered_written : (is before : List IosItem) → AreWritten is → AreWritten (numbered_from before is)
 unfolding numbered_from
 items_numbered_written [] before h = tt
 items_numbered_written (i ∷ is) before h = (numbered_written before i.form h.0, items_numbered_written is (before ++ numbered_item before i ∷ []) h.1)
 
-pub tree_is_written : (text : List ℕ) → AllByRecursion IsWritten (ios_tree text)
+pub tree_is_written : (text : List ℕ) → AreWritten (ios_tree text)
 unfolding ios_tree
 tree_is_written text = items_numbered_written (items_of false (ios_cut text)) [] (items_written (ios_cut text) false)
