@@ -1,0 +1,8 @@
+mod Examples
+pub mod ActionLaws
+pub mod FirstChoice
+pub mod GroupingLaws
+pub mod EntryLaws
+pub mod PathLaws
+pub mod AtomLaws
+pub mod PlanLaws

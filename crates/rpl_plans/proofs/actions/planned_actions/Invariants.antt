@@ -1,0 +1,11 @@
+use Rattle.std.proofs.Common.{◌≡◌, length}
+use Rattle.route_types.specs.Change.{changed_by}
+use Rattle.route_types.specs.Route.{RouteParts}
+use Rattle.rpl_plans.specs.Actions.{acted_by}
+use Rattle.rpl_plans.proofs.actions.planned_actions.Given as goal
+
+abbrev pub invariant-loop-rest : goal.invariant-loop-rest
+invariant-loop-rest l = (r : RouteParts) → changed_by l.rest (acted_by l.planned r) ≡ changed_by l.changes r
+
+abbrev pub decreases-loop-rest : goal.decreases-loop-rest
+decreases-loop-rest l = length l.rest

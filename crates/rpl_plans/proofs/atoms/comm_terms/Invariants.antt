@@ -1,0 +1,9 @@
+use Rattle.std.proofs.Common.{◌≡◌, ◌++◌, length}
+use Rattle.rpl_plans.specs.Entries.{comm_terms}
+use Rattle.rpl_plans.proofs.atoms.comm_terms.Given as goal
+
+abbrev pub invariant-loop-rest : goal.invariant-loop-rest
+invariant-loop-rest l = l.found ++ comm_terms l.rest ≡ comm_terms l.lists
+
+abbrev pub decreases-loop-rest : goal.decreases-loop-rest
+decreases-loop-rest l = length l.rest

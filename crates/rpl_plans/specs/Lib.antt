@@ -1,0 +1,5 @@
+pub mod Actions
+pub mod Choices
+pub mod Entries
+pub mod Holds
+pub mod Plans

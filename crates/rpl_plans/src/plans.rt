@@ -1,0 +1,80 @@
+// Guarded steps as planned steps.
+ghost use Rattle.std.specs.Prelude.{◌≡◌, true, IfOk};
+ghost use Rattle.std.specs.List.{list_all};
+ghost use Rattle.policy_core.specs.Guards.{literal_holds, outcome_of, step_says};
+ghost use Rattle.policy_core.specs.Sayable.{rpl_atom, rpl_change};
+ghost use Rattle.route_types.specs.Route.{RouteParts, InRange};
+ghost use Rattle.rpl_plans.specs.Holds.{planned_holds};
+ghost use Rattle.rpl_plans.specs.Plans.{SaysLiteral, SaysGuard, SaysStep, SaysSteps, planned_outcome};
+
+use crate::actions::planned_actions;
+use crate::atoms::planned_terms;
+use crate::step::{PlannedLiteral, PlannedStep};
+use policy_core::{Literal, Step};
+use route_types::{Memory, Row};
+use std::alloc::Global;
+
+fn planned_literal(alloc: Global, literal: &Literal) -> Result<PlannedLiteral, Memory>
+    requires { rpl_atom literal.now.atom ≡ true }
+    ensures { IfOk result (λ planned. SaysLiteral literal.now planned) }
+{
+    let terms = planned_terms(alloc, &literal.atom)?;
+    Ok(PlannedLiteral {
+        terms,
+        wanted: literal.wanted,
+    })
+}
+
+fn planned_guard(alloc: Global, guard: &[Literal]) -> Result<Row<PlannedLiteral>, Memory>
+    requires { list_all (λ l. rpl_atom l.atom) guard.now ≡ true }
+    ensures { IfOk result (λ planned. SaysGuard guard.now planned) }
+{
+    let mut found = Row::new(alloc);
+    let mut rest = guard;
+    while let [first, tail @ ..] = rest {
+        let literal = planned_literal(alloc, first)?;
+        found.push(literal)?;
+        rest = tail;
+    }
+    Ok(found)
+}
+
+fn planned_step(alloc: Global, step: &Step) -> Result<PlannedStep, Memory>
+    requires { step_says rpl_atom rpl_change step.now ≡ true }
+    ensures { IfOk result (λ planned. SaysStep step.now planned) }
+{
+    let guard = planned_guard(alloc, step.guard.as_slice())?;
+    let actions = planned_actions(alloc, step.actions.as_slice())?;
+    Ok(PlannedStep {
+        guard,
+        actions,
+        accept: step.accept,
+    })
+}
+
+/// The planned steps of guarded steps whose tests and changes a text of RPL can say. The time is near-linear in the size of
+/// the result. The one error is want of memory.
+pub fn planned_steps(alloc: Global, steps: &[Step]) -> Result<Row<PlannedStep>, Memory>
+    requires { list_all (step_says rpl_atom rpl_change) steps.now ≡ true }
+    // Each planned step does what its step does.
+    ensures says { IfOk result (λ planned. SaysSteps steps.now planned) }
+    // They give every route the outcome of the steps.
+    ensures outcome { IfOk result (λ planned. (r : RouteParts) → InRange r → planned_outcome (planned_holds r) planned r ≡ outcome_of steps.now r) }
+{
+    let found = each_step(alloc, steps)?;
+    Ok(found)
+}
+
+fn each_step(alloc: Global, steps: &[Step]) -> Result<Row<PlannedStep>, Memory>
+    requires { list_all (step_says rpl_atom rpl_change) steps.now ≡ true }
+    ensures { IfOk result (λ planned. SaysSteps steps.now planned) }
+{
+    let mut found = Row::new(alloc);
+    let mut rest = steps;
+    while let [first, tail @ ..] = rest {
+        let step = planned_step(alloc, first)?;
+        found.push(step)?;
+        rest = tail;
+    }
+    Ok(found)
+}
