@@ -1,0 +1,5 @@
+pub mod Guards
+pub mod Statements
+pub mod Tests
+pub mod Forms
+pub mod Sharing
