@@ -8,7 +8,7 @@ use std::test::Fail;
 use text_words::{BlockKind, BrokenKind, Span, TextFault};
 
 /// The line and the column of a byte, counted from 1.
-fn place_of(text: &[u8], at: u64) -> (u64, u64) {
+pub(crate) fn place_of(text: &[u8], at: u64) -> (u64, u64) {
     let mut line: u64 = 1;
     let mut column: u64 = 1;
     let mut count: u64 = 0;
