@@ -56,13 +56,15 @@ asks_50 = refl
 
 -- ---- the ticket
 
-passes : rpl_meaning (policy (codes "P") [] (Statement Pass ∷ End ∷ [])) (codes "P") (route 10 []) ≡ Accept (route 10 [])
+-- `pass` alone accepts every route unchanged
+passes : (r : RouteParts) → rpl_meaning (policy (codes "P") [] (Statement Pass ∷ End ∷ [])) (codes "P") r ≡ Accept r
 unfolding rpl_meaning run_policy block_at nested run run_levels
-passes = refl
+passes r = refl
 
-does_nothing : rpl_meaning (policy (codes "P") [] (End ∷ [])) (codes "P") (route 10 []) ≡ Reject
+-- without statements every route is rejected
+does_nothing : (r : RouteParts) → rpl_meaning (policy (codes "P") [] (End ∷ [])) (codes "P") r ≡ Reject
 unfolding rpl_meaning run_policy block_at nested run run_levels
-does_nothing = refl
+does_nothing r = refl
 
 -- ---- branches
 
@@ -90,9 +92,9 @@ sets_preference =
     policy (codes "SETLP") (codes "x" ∷ []) (does (SetLocalPreference (GivenNumber (codes "x"))) ∷ Statement Done ∷ End ∷ [])
     ++ policy (codes "P") [] (applies (codes "SETLP") (Written (codes "300") ∷ []) ∷ Statement Drop ∷ End ∷ [])
 
-ends_the_run : rpl_meaning sets_preference (codes "P") (route 10 []) ≡ Accept (record (route 10 []) { local_preference = 300 })
+ends_the_run : (r : RouteParts) → rpl_meaning sets_preference (codes "P") r ≡ Accept (record r { local_preference = 300 })
 unfolding rpl_meaning run_policy block_at nested run run_levels handed number_in
-ends_the_run = refl
+ends_the_run r = refl
 
 abbrev prepends : List RplForm
 prepends =
