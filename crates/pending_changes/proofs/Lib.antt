@@ -1,0 +1,4 @@
+pub mod PendingLaws
+pub mod ListedLaws
+pub mod SamePending
+mod Examples
