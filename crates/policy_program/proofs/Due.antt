@@ -4,11 +4,12 @@ use Rattle.std.specs.Prelude.{nat_le, IsSomeAnd}
 use Rattle.std.proofs.lemmas.Bool.Decides.{nat_tests}
 use Rattle.policy_outside.specs.Texts.{Texts, text_at}
 use Rattle.route_types.proofs.RouteSpelled.{not_both_of, spelled_or_refused}
-use Rattle.policy_program.specs.Source.{Taken, Loaded}
+use Rattle.policy_sources.specs.Source.{Taken, Loaded}
 use Rattle.policy_program.specs.Answer.{Told, CannotRead, IsTooLong, IsBroken, HasNoPolicy, IsOutside, SpellsNoRoute, Answer, Result, Refusal, status_of, status_told}
-use Rattle.policy_program.specs.Words.{Request, Translate, Judge}
+use Rattle.policy_request.specs.Words.{Request, Translate, Judge}
 use Rattle.policy_program.specs.Requests.{Input, PolicyFile, RouteFile, inputs_of, taken_by, file_in, IsResult, IsSound, IsUnsound, IsFirstUnsound, AreSound, IsTextOf, HasNoText, AreTextsOf, IsAtTurn, IsDue, IsServed, most_bytes}
-use Rattle.policy_program.proofs.LoadsOnce.{told_once, ios_or, loads_or}
+use Rattle.policy_request.specs.declared.language.Language.TheVariants.{Ios}
+use Rattle.policy_program.proofs.ToldOnce.{told_once, loads_or}
 use Rattle.policy_program.specs.declared.status.Status.{Status}
 use Rattle.policy_program.specs.declared.status.Status.TheVariants.{Done}
 
@@ -182,7 +183,7 @@ sound_or : (texts : Texts) (q : Request) (ts : List (List ℕ)) → AreTextsOf (
     → AreSound (taken_by q) (inputs_of q) ts ⊎ ((file : List ℕ) × (about : Told) × IsFirstUnsound (taken_by q) (inputs_of q) ts file about)
 sound_or texts (Translate t) [] given = absurd given
 sound_or texts (Translate t) (source ∷ other ∷ ts) given = absurd given.1
-sound_or texts (Translate t) (source ∷ []) given = elim (ios_or (taken_by (Translate t)) t.file t.policy source) [
+sound_or texts (Translate t) (source ∷ []) given = elim (loads_or (taken_by (Translate t)) t.file Ios t.policy source) [
   | inl sound ↦ inl (sound, tt)
   | inr none ↦ inr (t.file, none.0, inl (refl, none.1))
 ]

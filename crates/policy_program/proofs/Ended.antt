@@ -2,7 +2,7 @@
 use Rattle.std.proofs.Common.{◌≡◌, ◌⊎◌, inl, inr, refl, sym, subst, ◌∙◌, ℕ, List, Option, Some, None}
 use Rattle.std.specs.Prelude.{IfSome}
 use Rattle.policy_outside.specs.Texts.{Texts}
-use Rattle.policy_program.specs.Words.{Request, Accepts, IsRefused}
+use Rattle.policy_request.specs.Words.{Request, Accepts, IsRefused}
 use Rattle.policy_program.specs.Answer.{Told, CannotRead, IsTooLong, IsBroken, HasNoPolicy, IsOutside, SpellsNoRoute, Answer, Result, Refusal, status_of, status_told}
 use Rattle.policy_program.specs.Requests.{inputs_of, IsResult, IsAtTurn, IsDue}
 use Rattle.policy_program.specs.Ends.{Shelves, Sinks, Ends, by_words, by_fetch, refused, written, unwritten, by_memory}
@@ -10,7 +10,7 @@ use Rattle.policy_program.specs.Run.{WritesResult, IsComplete, IsStatusFor, IsEx
 use Rattle.policy_program.specs.declared.status.Status.{Status}
 use Rattle.policy_program.specs.declared.status.Status.TheVariants.{Done, Usage, FetchFailed, WriteFailed, Memory}
 use Rattle.policy_program.proofs.Due.{result_sound, served_not, one_status}
-use Rattle.policy_program.proofs.Words.{accepted_once}
+use Rattle.policy_request.proofs.Words.{accepted_once}
 
 -- a refusal is neither Done nor Usage
 not_done : (about : Told) → status_told about ≡ Done → ⊥

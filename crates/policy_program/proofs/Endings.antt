@@ -10,12 +10,12 @@ use Rattle.policy_outside.specs.Shelf.{ShelfView, SameFaults, FaultRose}
 use Rattle.policy_outside.specs.Sink.{Puts}
 use Rattle.rpl_written.specs.Written.{is_new_name}
 use Rattle.policy_program.specs.Answer.{Told, CannotRead, IsTooLong, IsBroken, HasNoPolicy, IsOutside, SpellsNoRoute, Result, status_told, line_told}
-use Rattle.policy_program.specs.Languages.{language_in}
-use Rattle.policy_program.specs.Words.{Verb, Translates, Judges, Request, TranslateParts, Translate, Judge, request_by, slots, app_of_verb, AreValues, Accepts}
+use Rattle.policy_request.specs.Languages.{language_in}
+use Rattle.policy_request.specs.Words.{Verb, Translates, Judges, Request, TranslateParts, Translate, Judge, request_by, slots, app_of_verb, AreValues, Accepts}
 use Rattle.policy_program.specs.Requests.{Input, inputs_of, file_in, IsTextOf, HasNoText, AreTextsOf, IsAtTurn, IsDue}
 use Rattle.policy_program.specs.Ends.{Shelves, Sinks, Ends, by_fetch, refused, written, unwritten, by_memory, Tells}
 use Rattle.policy_program.specs.Layers.{told_of, AnswersOn, IsWellNamed, FailsToFetch, FetchesText, GoesOn, FetchesAll, TellsPut, TellsAnswer, AnswersRequest}
-use Rattle.policy_program.specs.declared.language.Language.{Language}
+use Rattle.policy_request.specs.declared.language.Language.{Language}
 use Rattle.policy_program.specs.declared.refusal.Fault.{Fault}
 use Rattle.policy_program.specs.declared.refusal.Fault.TheVariants.{Refused, Memory}
 use Rattle.policy_program.specs.declared.request.Output.{Output}

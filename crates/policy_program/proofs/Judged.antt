@@ -3,13 +3,13 @@ use Rattle.std.proofs.Common.{inl, inr, refl, ℕ, List, [], ◌∷◌, Err}
 use Rattle.route_types.specs.Route.{RouteParts}
 use Rattle.route_types.specs.RouteText.{SpellsRoute, IsFirstBadLine}
 use Rattle.ios_reader.specs.Profile.{all_forms}
-use Rattle.policy_program.specs.Source.{Policy, Loaded, Loads, source_in}
+use Rattle.policy_sources.specs.Source.{Policy, Loaded, Loads, source_in}
 use Rattle.policy_program.specs.Results.{IsJudgement}
 use Rattle.policy_program.specs.Answer.{SpellsNoRoute}
-use Rattle.policy_program.specs.Words.{JudgeParts, Judge}
+use Rattle.policy_request.specs.Words.{JudgeParts, Judge}
 use Rattle.policy_program.specs.Requests.{IsFirstUnsound, inputs_of, judged_file}
 use Rattle.policy_program.specs.Layers.{AnswersOn, RefusesUnsound, TellsOutcome}
-use Rattle.policy_program.specs.declared.language.Language.{Language}
+use Rattle.policy_request.specs.declared.language.Language.{Language}
 use Rattle.policy_program.specs.declared.refusal.Fault.{Fault}
 use Rattle.policy_program.specs.declared.refusal.Fault.TheVariants.{Refused, Memory}
 

@@ -12,21 +12,12 @@ pub mod TakenLists
 pub mod PlainEntries
 pub mod IosMeaning
 pub mod WholeLaws
-mod WordExamples
-pub mod Chains
-pub mod ChainNames
-pub mod Causes
-pub mod ClapParse
-pub mod ClapRows
-pub mod ClapValues
-pub mod OnLiterals
-pub mod Words
 pub mod Told
-pub mod Loaded
+pub mod Unsound
 pub mod Judged
 pub mod Fetched
 pub mod Right
-pub mod LoadsOnce
+pub mod ToldOnce
 pub mod Due
 pub mod Endings
 pub mod Ended

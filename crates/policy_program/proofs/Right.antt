@@ -14,20 +14,21 @@ use Rattle.rpl_written.proofs.ReadBack.{reads_as, touches_its_own}
 use Rattle.rpl_written.proofs.WrittenProfile.{in_profile}
 use Rattle.rpl_written.proofs.WrittenMeaning.{means_steps}
 use Rattle.policy_program.specs.FirstForms.{is_first_form}
-use Rattle.policy_program.specs.Source.{Rpl, OfIos, OfRpl, ios_source}
+use Rattle.policy_sources.specs.Source.{PlainRpl, OfIos, OfPlainRpl, ios_source}
+use Rattle.policy_sources.specs.Loading.{IsLoaded}
 use Rattle.policy_program.specs.Results.{IsTranslation}
-use Rattle.policy_program.specs.Layers.{IsLoaded, TranslatesTo}
+use Rattle.policy_program.specs.Layers.{TranslatesTo}
 use Rattle.policy_program.specs.Written.{Writes}
-use Rattle.policy_program.specs.declared.load.LoadFault.{LoadFault}
-use Rattle.policy_program.specs.declared.load.LoadFault.TheVariants.{Memory}
+use Rattle.policy_sources.specs.declared.loads.LoadFault.{LoadFault}
+use Rattle.policy_sources.specs.declared.loads.LoadFault.TheVariants.{Memory}
 
-is_right : (source policy target name : List ℕ) (checked : PolicyParts) → IsLoaded is_first_form source policy checked → Writes checked.items policy target name → IsTranslation (ios_source policy source) Rpl name target
+is_right : (source policy target name : List ℕ) (checked : PolicyParts) → IsLoaded is_first_form source policy checked → Writes checked.items policy target name → IsTranslation (ios_source policy source) PlainRpl name target
 is_right source policy target name checked loaded written =
     let again = reads_as name written.sets written.steps written.writable in
     record {
       policy = OfIos (ios_tree source) policy;
       loads = loaded.loads;
-      written = OfRpl again.0 name;
+      written = OfPlainRpl again.0 name;
       reads = (
         again.0,
         ap rpl_tree written.layout ∙ again.1,

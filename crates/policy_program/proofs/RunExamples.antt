@@ -1,13 +1,12 @@
 -- Worked examples of lines, of the text of an outcome and of answers that are due.
-use Rattle.std.proofs.Common.{◌≡◌, inl, inr, refl, ℕ, List, [], ◌∷◌, ◌++◌, Some, false, lit≤}
+use Rattle.std.proofs.Common.{◌≡◌, inl, inr, refl, ℕ, List, [], ◌∷◌, ◌++◌, Some, lit≤}
 use Rattle.std.specs.Prelude.{codes}
 use Rattle.std.specs.Fmt.{digits}
 use Rattle.route_types.specs.declared.route.Outcome.TheVariants.{Reject}
 use Rattle.policy_text.specs.declared.fault.Cause.TheVariants.{UnknownForm}
 use Rattle.text_words.specs.declared.fault.BrokenKind.TheVariants.{NoEnder}
-use Rattle.policy_program.specs.Languages.{are_given, names_from, names_in}
-use Rattle.policy_program.specs.declared.language.Language.TheVariants.{Ios, Junos}
-use Rattle.policy_program.specs.Words.{Request, Judge}
+use Rattle.policy_request.specs.declared.language.Language.TheVariants.{Ios}
+use Rattle.policy_request.specs.Words.{Request, Judge}
 use Rattle.policy_program.specs.Lines.{column_behind, place_in}
 use Rattle.policy_program.specs.Answer.{CannotRead, IsBroken, HasNoPolicy, IsOutside, SpellsNoRoute, Refusal, line_told}
 use Rattle.policy_program.specs.Results.{outcome_text}
@@ -52,15 +51,3 @@ no_policy_file = inl (inl refl, refl)
 
 no_route_file : IsDue (Some ((codes "e.cfg", []) ∷ [])) request (Refusal (codes "r.txt") CannotRead)
 no_route_file = inl (inr ([], record { is_told = refl; within = lit≤ tt }, inl refl), refl)
-
--- the names in a policy word
-one_name : names_in Ios (codes "A,B") ≡ codes "A,B" ∷ []
-one_name = refl
-
-two_names : names_in Junos (codes "A,BC") ≡ codes "A" ∷ codes "BC" ∷ []
-unfolding names_from
-two_names = refl
-
-no_last_name : are_given (names_in Junos (codes "A,")) ≡ false
-unfolding names_from
-no_last_name = refl

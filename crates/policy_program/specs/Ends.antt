@@ -3,7 +3,7 @@ use Rattle.std.specs.Prelude.{◌≡◌, ℕ, ◌⊎◌, List}
 use Rattle.policy_outside.specs.Counts.{Rose}
 use Rattle.policy_outside.specs.Shelf.{ShelfView, SameFaults, FaultRose}
 use Rattle.policy_outside.specs.Sink.{SinkView, PutsWhole, PutsPrefix}
-use Rattle.policy_program.specs.Words.{Request, Accepts, IsRefused}
+use Rattle.policy_request.specs.Words.{Request, Accepts, IsRefused}
 use Rattle.policy_program.specs.Answer.{Told, CannotRead, Answer, Result, Refusal, status_told, line_told, usage_line, unwritten_line, memory_line}
 use Rattle.policy_program.specs.Requests.{inputs_of, IsAtTurn, IsDue}
 use Rattle.policy_program.specs.declared.status.Status.{Status}

@@ -1,32 +1,23 @@
 -- How the layers of a run end, as the code has them: loading, a verb's answer on its texts, fetching, and writing.
-use Rattle.std.specs.Prelude.{◌≡◌, ℕ, true, List, [], ◌∷◌, Ok, Err, Result as Outcome, Vec, map, slice_get, unwrap_or}
-use Rattle.std.specs.Borrow.{Bor}
+use Rattle.std.specs.Prelude.{◌≡◌, ℕ, true, List, [], ◌∷◌, Ok, Err, Result as Outcome, Vec, slice_get, unwrap_or}
 use Rattle.std.specs.declared.alloc.Global.{Global}
 use Rattle.policy_outside.specs.declared.faults.PutFault.{PutFault}
 use Rattle.policy_outside.specs.declared.faults.PutFault.TheVariants.{Failed, Memory as NoRoom}
 use Rattle.policy_outside.specs.Shelf.{ShelfView, SameFaults, FaultRose}
 use Rattle.policy_outside.specs.Sink.{Puts}
-use Rattle.text_words.specs.declared.fault.TextFault.{TextFault}
-use Rattle.text_words.specs.declared.fault.TextFault.TheVariants as unread
-use Rattle.policy_text.specs.declared.fault.CheckFault.{CheckFault}
-use Rattle.policy_text.specs.declared.fault.CheckFault.TheVariants as unchecked
 use Rattle.route_types.specs.Route.{RouteParts}
-use Rattle.ios_tree.specs.Tree.{ios_tree}
-use Rattle.ios_reader.specs.Profile.{PolicyParts as IosParts}
-use Rattle.ios_meaning.specs.Meaning.{name_of}
 use Rattle.rpl_written.specs.Written.{is_new_name}
-use Rattle.policy_program.specs.Source.{Taken, Rpl, Source, Policy, OfIos, OfJunos, Loaded, Broken, NoPolicy, Outside, Loads, meaning, ios_source}
+use Rattle.policy_sources.specs.Source.{Taken, PlainRpl, Policy, meaning, ios_source}
+use Rattle.policy_sources.specs.Loading.{FailsToLoad}
 use Rattle.policy_program.specs.FirstForms.{is_first_form}
 use Rattle.policy_program.specs.Results.{IsTranslation, outcome_text}
 use Rattle.policy_program.specs.Lines.{place_in}
 use Rattle.policy_program.specs.Answer.{Told, CannotRead, IsTooLong, IsBroken, HasNoPolicy, IsOutside, SpellsNoRoute, Result, Refusal, status_told, line_told, unwritten_line, memory_line}
-use Rattle.policy_program.specs.Words.{Request, Translate, Judge}
+use Rattle.policy_request.specs.Words.{Request, Translate, Judge}
 use Rattle.policy_program.specs.Requests.{Input, inputs_of, file_in, IsUnsound, RightAnswer, IsTextOf, HasNoText}
 use Rattle.policy_program.specs.Ends.{Shelves, Sinks, ReceivedNothing, ReceivedLine, Tells}
-use Rattle.policy_program.specs.declared.load.LoadFault.{LoadFault}
-use Rattle.policy_program.specs.declared.load.LoadFault.TheVariants as unloaded
-use Rattle.policy_program.specs.declared.load.LoadedPolicy.{LoadedPolicy}
-use Rattle.policy_program.specs.declared.load.LoadedPolicy.TheVariants as policy_in
+use Rattle.policy_sources.specs.declared.loads.LoadFault.{LoadFault}
+use Rattle.policy_sources.specs.declared.loads.LoadFault.TheVariants as unloaded
 use Rattle.policy_program.specs.declared.refusal.Fault.{Fault}
 use Rattle.policy_program.specs.declared.refusal.Fault.TheVariants.{Refused, Memory}
 use Rattle.policy_program.specs.declared.refusal.Told.{Told as ToldOf}
@@ -44,42 +35,11 @@ told_of (told.HasNoPolicy policy) = HasNoPolicy policy.now
 told_of (told.IsOutside place cause) = IsOutside place cause
 told_of (told.SpellsNoRoute line) = SpellsNoRoute line
 
--- ---- loading
-
--- what a fault of a load says of its source; want of memory says nothing
-abbrev pub FailsToLoad : Taken → Source → LoadFault → Type 0
-FailsToLoad taken source (unloaded.Broken span kind) = Loads taken source (Broken span kind)
-FailsToLoad taken source (unloaded.NoPolicy place) = Loads taken source (NoPolicy place)
-FailsToLoad taken source (unloaded.Outside span cause) = Loads taken source (Outside span cause)
-FailsToLoad taken source unloaded.Memory = Unit {0}
-
--- the fault of a load that a fault of the reading or of the check is
-abbrev pub fault_of_text : TextFault → LoadFault
-fault_of_text (unread.Broken span kind) = unloaded.Broken span kind
-fault_of_text unread.Memory = unloaded.Memory
-
-abbrev pub fault_of_check : CheckFault → LoadFault
-fault_of_check (unchecked.NoPolicy place) = unloaded.NoPolicy place
-fault_of_check (unchecked.Outside span cause) = unloaded.Outside span cause
-fault_of_check unchecked.Memory = unloaded.Memory
-
--- the policy of this name in an IOS text, read and checked
-pub record IsLoaded (taken : Taken) (text policy : List ℕ) (checked : IosParts) : Type 0 where
-  pub is : checked ≡ record { items = ios_tree text; names = policy ∷ [] }
-  pub loads : Loads taken (ios_source policy text) (Loaded (OfIos (ios_tree text) policy))
-
--- the policy that the code has loaded
-abbrev pub policy_of : LoadedPolicy → Policy
-policy_of (policy_in.Ios checked) = OfIos checked.items (name_of checked)
-policy_of (policy_in.Junos checked) = OfJunos checked.items checked.names
-
--- the texts of names, without where they lie in memory
-abbrev pub texts_of : List (Bor (List ℕ)) → List (List ℕ)
-texts_of names = map (λ name. name.now) names
+-- ---- refusing
 
 -- what translation from IOS to RPL answers
 abbrev pub TranslatesTo : List ℕ → List ℕ → List ℕ → Outcome (Vec ℕ Global) LoadFault → Type 0
-TranslatesTo text policy name (Ok written) = IsTranslation (ios_source policy text) Rpl name written.items
+TranslatesTo text policy name (Ok written) = IsTranslation (ios_source policy text) PlainRpl name written.items
 TranslatesTo text policy name (Err fault) = FailsToLoad is_first_form (ios_source policy text) fault
 
 -- the fault refuses the file, and tells this of it

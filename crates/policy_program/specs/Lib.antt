@@ -1,8 +1,4 @@
-pub mod Languages
-pub mod Words
-pub mod Spelled
 pub mod FirstForms
-pub mod Source
 pub mod Results
 pub mod Lines
 pub mod Answer

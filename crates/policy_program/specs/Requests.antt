@@ -5,12 +5,12 @@ use Rattle.route_types.specs.Route.{RouteParts}
 use Rattle.route_types.specs.RouteText.{SpellsRoute, IsFirstBadLine}
 use Rattle.ios_reader.specs.Profile.{all_forms}
 use Rattle.policy_program.specs.FirstForms.{is_first_form}
-use Rattle.policy_program.specs.Source.{Taken, Dialect, Ios, Rpl, dialect_of, Source, Policy, Load, Loaded, Broken, NoPolicy, Outside, Loads, source_in, ios_source}
+use Rattle.policy_sources.specs.Source.{Taken, Dialect, Ios, PlainRpl, dialect_of, Source, Policy, Load, Loaded, Broken, NoPolicy, Outside, Loads, source_in, ios_source}
 use Rattle.policy_program.specs.Lines.{place_in}
 use Rattle.policy_program.specs.Answer.{Told, CannotRead, IsTooLong, IsBroken, HasNoPolicy, IsOutside, SpellsNoRoute, Answer, Result, Refusal}
 use Rattle.policy_program.specs.Results.{IsTranslation, IsJudgement}
-use Rattle.policy_program.specs.Languages.{names_in}
-use Rattle.policy_program.specs.Words.{Request, Translate, JudgeParts, Judge}
+use Rattle.policy_request.specs.Languages.{names_in}
+use Rattle.policy_request.specs.Words.{Request, Translate, JudgeParts, Judge}
 use Rattle.policy_program.specs.declared.status.Status.{Status}
 use Rattle.policy_program.specs.declared.status.Status.TheVariants.{Done}
 
@@ -30,7 +30,7 @@ inputs_of (Judge j) = judged_file j ∷ RouteFile j.route_file ∷ []
 
 -- the text is the result of a request on the texts of its files, with this status
 abbrev pub IsResult : Request → List (List ℕ) → Status → List ℕ → Type 0
-IsResult (Translate t) (source ∷ []) status text = (status ≡ Done) × IsTranslation (ios_source t.policy source) Rpl t.name text
+IsResult (Translate t) (source ∷ []) status text = (status ≡ Done) × IsTranslation (ios_source t.policy source) PlainRpl t.name text
 IsResult (Judge j) (source ∷ route ∷ []) status text = (status ≡ Done) × IsJudgement (source_in j.language j.policy source) route text
 IsResult q texts status text = ⊥
 

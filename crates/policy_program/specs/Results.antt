@@ -7,14 +7,15 @@ use Rattle.route_types.specs.declared.route.Outcome.TheVariants.{Reject, Accept}
 use Rattle.ios_reader.specs.Profile.{all_forms}
 use Rattle.rpl_written.specs.Own.{TouchesItsOwn}
 use Rattle.policy_program.specs.FirstForms.{is_first_form}
-use Rattle.policy_program.specs.Source.{Dialect, Ios, Junos, Rpl, Source, Policy, Loaded, Loads, meaning}
+use Rattle.policy_sources.specs.Source.{Dialect, Ios, Junos, Rpl, PlainRpl, Source, Policy, Loaded, Loads, meaning}
 
 -- the text touches nothing of others, by its language: each of its statements lies in a block, and each block is of the
--- name or stands under it with `-` and more behind it; no text is written in IOS or Junos yet
+-- name or stands under it with `-` and more behind it; plain RPL is all that is written yet
 abbrev pub IsOwn : Dialect → List ℕ → List ℕ → Type 0
 IsOwn Ios name text = ⊥
 IsOwn Junos name text = ⊥
-IsOwn Rpl name text = TouchesItsOwn name text
+IsOwn Rpl name text = ⊥
+IsOwn PlainRpl name text = TouchesItsOwn name text
 
 -- The text is a right translation of a source into a language, under a new name: the source loads as a policy, the
 -- text loads under the name, for every route in range both policies make the same of it, and it touches nothing of others.

@@ -2,7 +2,7 @@
 use Rattle.std.specs.Prelude.{◌≡◌, ℕ, ◌⊎◌, List, Option, Some, IfSome}
 use Rattle.policy_outside.specs.Shelf.{FaultRose}
 use Rattle.policy_outside.specs.Texts.{Texts}
-use Rattle.policy_program.specs.Words.{Request, Accepts, IsRefused}
+use Rattle.policy_request.specs.Words.{Request, Accepts, IsRefused}
 use Rattle.policy_program.specs.Answer.{Answer, Result, Refusal, status_of}
 use Rattle.policy_program.specs.Requests.{inputs_of, IsResult, AreTextsOf, IsAtTurn, IsDue, IsServed}
 use Rattle.policy_program.specs.Ends.{Shelves, Sinks, Received, FaultsRose}

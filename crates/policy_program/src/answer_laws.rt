@@ -1,7 +1,7 @@
 // The laws of the answers to a request; their clauses are all that they do.
 ghost use Rattle.std.specs.Prelude.{◌≡◌, ◌⊎◌, ℕ, List, Some};
 ghost use Rattle.policy_outside.specs.Texts.{Texts};
-ghost use Rattle.policy_program.specs.Words.{Request};
+ghost use Rattle.policy_request.specs.Words.{Request};
 ghost use Rattle.policy_program.specs.Answer.{Answer, Refusal, Told, status_of};
 ghost use Rattle.policy_program.specs.Requests.{IsDue, IsServed};
 

@@ -1,18 +1,18 @@
 // What the policy of a source makes of a route.
-ghost use Rattle.std.specs.Prelude.{◌≡◌, [], ◌∷◌, IfOk};
+ghost use Rattle.std.specs.Prelude.{◌≡◌, [], ◌∷◌, IfErr, IfOk};
 ghost use Rattle.ios_reader.specs.Profile.{all_forms};
 ghost use Rattle.policy_program.specs.Results.{outcome_text};
-ghost use Rattle.policy_program.specs.Source.{Loaded, Loads, meaning, source_in};
-ghost use Rattle.policy_program.specs.Words.{Judge, judge_view};
-ghost use Rattle.policy_program.specs.Layers.{AnswersOn, TellsOutcome, policy_of};
+ghost use Rattle.policy_request.specs.Words.{Judge, judge_view};
+ghost use Rattle.policy_sources.specs.Source.{Loaded, Loads, source_in};
+ghost use Rattle.policy_sources.specs.Loading.{policy_of};
+ghost use Rattle.policy_program.specs.Requests.{judged_file};
+ghost use Rattle.policy_program.specs.Layers.{AnswersOn, RefusesUnsound, TellsOutcome};
 
-use crate::command::JudgeWords;
-use crate::load::{LoadedPolicy, load};
-use crate::refusal::{Fault, Refusal, Told};
+use crate::refusal::{Fault, Refusal, Told, refused_load};
 use crate::request::Output;
 use crate::status::Status;
-use ios_meaning::judge_ios;
-use junos_meaning::judge_junos;
+use policy_request::{JudgeWords, names_of};
+use policy_sources::{LoadedPolicy, load, outcome_of};
 use route_types::{Memory, Outcome, Route, RouteFault, print_route, read_route};
 use std::alloc::Global;
 
@@ -29,9 +29,29 @@ pub(crate) fn judge_texts<'a>(
 ) -> Result<Output, Fault<'a>>
     ensures { AnswersOn (Judge (judge_view asked.now)) (source.now ∷ route_text.now ∷ []) result }
 {
-    match load(alloc, asked, source) {
+    match load_judged(alloc, asked, source) {
         Ok(policy) => judge_loaded(alloc, asked, &policy, source, route_text),
         Err(fault) => Err(fault),
+    }
+}
+
+/// What judge is asked about, of its text: the policy, or what is told of the file that does not load.
+#[tactic(auto, using(crate::proofs::Unsound::unsound))]
+fn load_judged<'a>(
+    alloc: Global,
+    asked: &JudgeWords<'a>,
+    text: &[u8],
+) -> Result<LoadedPolicy, Fault<'a>>
+    ensures loaded { IfOk result (λ p. Loads all_forms (source_in asked.now.language asked.now.policy.now text.now) (Loaded (policy_of p))) }
+    ensures fault { IfErr result (RefusesUnsound all_forms (judged_file (judge_view asked.now)) text.now) }
+{
+    let word = asked.policy.as_bytes();
+    let Ok(names) = names_of(alloc, asked.language, word) else {
+        return Err(Fault::Memory);
+    };
+    match load(alloc, asked.language, word, text) {
+        Ok(policy) => Ok(policy),
+        Err(fault) => Err(refused_load(asked.file, names.as_slice(), text, fault)),
     }
 }
 
@@ -70,16 +90,6 @@ fn judge_route(alloc: Global, policy: &LoadedPolicy, route: &Route) -> Result<Ve
     match outcome_of(alloc, policy, route) {
         Ok(outcome) => outcome_text(alloc, &outcome),
         Err(fault) => Err(fault),
-    }
-}
-
-/// What a loaded policy makes of a route.
-fn outcome_of(alloc: Global, policy: &LoadedPolicy, route: &Route) -> Result<Outcome, Memory>
-    ensures { IfOk result (λ o. o ≡ meaning (policy_of policy.now) route.now) }
-{
-    match policy {
-        LoadedPolicy::Ios(checked) => judge_ios(alloc, checked, route),
-        LoadedPolicy::Junos(checked) => judge_junos(alloc, checked, route),
     }
 }
 

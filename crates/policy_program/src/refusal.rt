@@ -1,5 +1,10 @@
 // Why a request has no result.
-use crate::place::Place;
+ghost use Rattle.std.specs.Prelude.{◌≡◌, [], slice_get, unwrap_or};
+ghost use Rattle.policy_request.specs.Languages.{texts_of};
+ghost use Rattle.policy_program.specs.Layers.{TellsLoad};
+
+use crate::place::{Place, place_of};
+use policy_sources::LoadFault;
 use policy_text::{BrokenKind, Cause};
 
 /// What a refusal tells of a file.
@@ -34,4 +39,40 @@ pub enum Fault<'a> {
     Refused(Refusal<'a>),
     /// Want of memory.
     Memory,
+}
+
+/// The name at a place.
+fn name_at<'a>(names: &[&'a [u8]], place: usize) -> &'a [u8]
+    ensures { result.now ≡ unwrap_or (slice_get (texts_of names.now) place) [] }
+{
+    match names.get(place) {
+        Some(name) => name,
+        None => b"",
+    }
+}
+
+/// What a fault of a load tells of the file, which has this text and is to have policies of these names.
+pub(crate) fn refused_load<'a>(
+    file: &'a str,
+    names: &[&'a [u8]],
+    text: &[u8],
+    fault: LoadFault,
+) -> Fault<'a>
+    ensures { TellsLoad file.entry.now (texts_of names.entry.now) text.now fault result }
+{
+    let told = match fault {
+        LoadFault::Broken { span, kind } => Told::IsBroken {
+            place: place_of(text, span.start),
+            kind,
+        },
+        LoadFault::NoPolicy { place } => Told::HasNoPolicy {
+            policy: name_at(names, place),
+        },
+        LoadFault::Outside { span, cause } => Told::IsOutside {
+            place: place_of(text, span.start),
+            cause,
+        },
+        LoadFault::Memory => return Fault::Memory,
+    };
+    Fault::Refused(Refusal { file, told })
 }

@@ -1,16 +1,16 @@
 // The answer to a request: its files are fetched one by one, and then it is answered on their texts.
 ghost use Rattle.std.specs.Prelude.{◌≡◌, [], ◌∷◌, true};
 ghost use Rattle.rpl_written.specs.Written.{is_new_name};
-ghost use Rattle.policy_program.specs.Words.{Translate, Judge, translate_view, judge_view, request_view};
+ghost use Rattle.policy_request.specs.Words.{Translate, Judge, translate_view, judge_view, request_view};
 ghost use Rattle.policy_program.specs.Requests.{RouteFile, inputs_of};
 ghost use Rattle.policy_program.specs.Layers.{AnswersOn, IsWellNamed, FetchesText, FetchesAll};
 
-use crate::command::{JudgeWords, Request, TranslateWords};
 use crate::judge::judge_texts;
 use crate::refusal::{Fault, Refusal, Told};
 use crate::status::Status;
 use crate::translation::translate_text;
 use policy_outside::{FetchFault, Shelf};
+use policy_request::{JudgeWords, Request, TranslateWords};
 use std::alloc::Global;
 
 /// The greatest length of a source or a route file, in bytes.

@@ -2,12 +2,11 @@
 ghost use Rattle.std.specs.Prelude.{◌≡◌, map};
 ghost use Rattle.std.specs.String.{string_bytes};
 ghost use Rattle.policy_program.specs.Answer.{line_told, memory_line, status_told, usage_line};
-ghost use Rattle.policy_program.specs.Words.{request_view};
+ghost use Rattle.policy_request.specs.Words.{request_view};
 ghost use Rattle.policy_program.specs.Ends.{Ends, ReceivedLine};
 ghost use Rattle.policy_program.specs.Run.{WritesResult, IsComplete, IsExact};
 ghost use Rattle.policy_program.specs.Layers.{AnswersRequest, IsWellNamed, Writes, told_of};
 
-use crate::command::{Request, WordsFault, read_words};
 use crate::lines::{
     tell_broken, tell_memory, tell_no_policy, tell_not_route, tell_outside, tell_too_long,
     tell_unread, tell_unwritten, tell_usage,
@@ -16,6 +15,7 @@ use crate::refusal::{Fault, Refusal, Told};
 use crate::request::{Output, answer};
 use crate::status::Status;
 use policy_outside::{PutFault, Shelf, Sink, put_lines};
+use policy_request::{Request, WordsFault, read_words};
 use std::alloc::Global;
 
 /// Does what the words ask for: fetches the files of the request from `shelf`, in their order, writes the result to

@@ -6,17 +6,17 @@ ghost use Rattle.rpl_written.specs.Written.{is_new_name};
 ghost use Rattle.policy_program.specs.FirstForms.{is_first_form};
 ghost use Rattle.policy_program.specs.Plan.{HasPlainForm};
 ghost use Rattle.policy_program.specs.Written.{Writes};
-ghost use Rattle.policy_program.specs.Words.{Translate, translate_view};
+ghost use Rattle.policy_request.specs.Words.{Translate, translate_view};
 ghost use Rattle.policy_program.specs.Layers.{AnswersOn, TranslatesTo};
 
-use crate::command::TranslateWords;
 use crate::first_forms::FirstForms;
-use crate::load::{LoadFault, load_ios, refused_load};
-use crate::refusal::Fault;
+use crate::refusal::{Fault, refused_load};
 use crate::request::Output;
 use crate::status::Status;
 use crate::write::write_policy;
 use ios_reader::CheckedIos;
+use policy_request::TranslateWords;
+use policy_sources::{LoadFault, load_ios};
 use std::alloc::Global;
 
 /// The text that says in RPL, under `name`, what a checked policy says.

@@ -9,6 +9,8 @@ mod chains;
 #[cfg(test)]
 mod customer;
 #[cfg(test)]
+mod named;
+#[cfg(test)]
 mod not_taken;
 #[cfg(test)]
 mod outside;
@@ -18,6 +20,8 @@ mod policies;
 mod route_texts;
 #[cfg(test)]
 mod routes;
+#[cfg(test)]
+mod rpl;
 #[cfg(test)]
 mod runs;
 #[cfg(test)]

@@ -84,6 +84,10 @@ fn words_that_ask(rt: HostRuntime) -> Result<(), Fail> {
             "in.cfg: no policy A-B",
         ),
         (
+            "judge --from rpl --policy A,B in.cfg r.txt",
+            "in.cfg: no policy A,B",
+        ),
+        (
             "judge --from ios --policy A,,B in.cfg r.txt",
             "in.cfg: no policy A,,B",
         ),
@@ -115,7 +119,7 @@ fn words_of_no_request(rt: HostRuntime) -> Result<(), Fail> {
         "judge --from ios in.cfg r.txt --policy",
         "judge --from ios --policy IN in.cfg",
         "judge --from ios --policy IN in.cfg r.txt r.txt",
-        "judge --from rpl --policy IN in.cfg r.txt",
+        "judge --from xr --policy IN in.cfg r.txt",
         "judge --from Junos --policy IN in.cfg r.txt",
         "judge --from junos --policy A,,B in.cfg r.txt",
         "judge --from junos --policy ,A in.cfg r.txt",

@@ -1,5 +1,5 @@
 // The import of a customer: a subroutine, route-filters one in the other, communities that are taken off and added.
-use super::Chain;
+use crate::named::Named;
 use crate::policies::Verdict::{Accept, Reject};
 
 /// The text of examples/customer-junos.cfg.
@@ -101,7 +101,7 @@ routing-options {
 }
 ";
 
-pub const CHAINS: &[Chain] = &[
+pub const CHAINS: &[Named] = &[
     (
         "SANITY,CUSTOMER-IN",
         CUSTOMER,

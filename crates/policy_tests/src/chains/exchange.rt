@@ -1,5 +1,5 @@
 // The export to an exchange: terms without a name, actions behind `accept`, a subroutine among other conditions.
-use super::Chain;
+use crate::named::Named;
 use crate::policies::Verdict::{Accept, Reject};
 
 /// The text of examples/exchange-junos.cfg.
@@ -86,7 +86,7 @@ routing-options {
 }
 ";
 
-pub const CHAINS: &[Chain] = &[
+pub const CHAINS: &[Named] = &[
     (
         "NO-TRANSIT,EXCHANGE-OUT",
         EXCHANGE,

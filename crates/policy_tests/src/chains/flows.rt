@@ -1,5 +1,5 @@
 // How a chain runs: its terms and policies in order, changes that later terms see, subroutines, the end of the chain.
-use super::Chain;
+use crate::named::Named;
 use crate::policies::Verdict::{Accept, Reject};
 
 /// Two policies that test and set the MED.
@@ -21,7 +21,7 @@ policy-statement B {
 }
 ";
 
-pub const CHAINS: &[Chain] = &[
+pub const CHAINS: &[Named] = &[
     // Of two filters the one of the longer prefix decides, by its lengths alone.
     (
         "IMP",

@@ -1,10 +1,5 @@
 // Chains that are not judged: a text that is broken, a name under which no policy stands, a fault of the profile.
-
-/// A chain, a text, the status and the line; where it just is taken, the route is none.
-pub type Refused = (&'static str, &'static str, u8, &'static str);
-
-/// The line of a chain that is taken.
-const TAKEN: &str = "r.txt:1: not a route";
+use crate::named::{Refused, TAKEN};
 
 /// A path is tested behind numbers that are put before it.
 const BEHIND: &str = "\

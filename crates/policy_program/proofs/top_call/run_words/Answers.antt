@@ -1,9 +1,9 @@
 -- the request that was read is accepted, and its answer is how the run ends
 use Rattle.std.proofs.Common.{map, refl, ap, Err}
 use Rattle.std.specs.String.{string_bytes}
-use Rattle.policy_program.specs.Words.{request_view}
+use Rattle.policy_request.specs.Words.{request_view}
 use Rattle.policy_program.specs.Ends.{by_words}
-use Rattle.policy_program.specs.declared.command.WordsFault.{WordsFault}
+use Rattle.policy_request.specs.declared.command.WordsFault.{WordsFault}
 use Rattle.policy_program.proofs.Endings.{ends_request}
 use Rattle.policy_program.proofs.top_call.run_words.Goals as goal
 

@@ -1,10 +1,11 @@
 -- what is told of a file that does not load is the answer
 use Rattle.std.proofs.Common.{ℕ, List, [], ◌∷◌, subst}
 use Rattle.policy_program.specs.FirstForms.{is_first_form}
-use Rattle.policy_program.specs.Source.{ios_source}
-use Rattle.policy_program.specs.Words.{translate_view}
-use Rattle.policy_program.specs.Layers.{FailsToLoad, TellsLoad}
-use Rattle.policy_program.proofs.Loaded.{translate_refused}
+use Rattle.policy_sources.specs.Source.{ios_source}
+use Rattle.policy_request.specs.Words.{translate_view}
+use Rattle.policy_program.specs.Layers.{TellsLoad}
+use Rattle.policy_sources.specs.Loading.{FailsToLoad}
+use Rattle.policy_program.proofs.Unsound.{translate_refused}
 use Rattle.policy_program.proofs.translation.translate_text.Goals as goal
 
 pub returns-in-Err : goal.returns-in-Err
