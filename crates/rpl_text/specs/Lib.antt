@@ -1,0 +1,5 @@
+pub mod Patterns
+pub mod Words
+pub mod Layout
+pub mod Written
+pub mod Blocks
