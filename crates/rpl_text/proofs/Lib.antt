@@ -8,4 +8,5 @@ pub mod SpelledConditions
 pub mod Lines
 pub mod SpelledStatements
 pub mod ElementLines
+pub mod Texts
 pub mod Reading

@@ -1,12 +1,13 @@
 -- Lines of forms are cut into their statements, and these read as the forms.
-use Rattle.std.proofs.Common.{◌≡◌, refl, sym, ap, ap₂, subst, ◌∙◌, ℕ, ◌+◌, ◌*◌, Bool, true, false, ◌||◌, List, [], ◌∷◌, Option, Some, None}
-use Rattle.std.specs.Prelude.{codes, option_map}
+use Rattle.std.proofs.Common.{◌≡◌, refl, sym, ap, ap₂, subst, ◌∙◌, ℕ, ◌+◌, ◌*◌, Bool, true, false, ◌||◌, List, [], ◌∷◌, Option, Some, None, Result, Ok, Err}
+use Rattle.std.specs.Prelude.{codes, option_map, IfOk}
 use Rattle.policy_text.specs.Names.{or_else}
 use Rattle.text_words.specs.Pieces.{Piece, placed, word_at}
 use Rattle.text_words.specs.Signs.{are_words}
 use Rattle.text_words.specs.RplCut.{is_word, opening, rpl_cut}
 use Rattle.text_words.specs.RplText.{rpl_signs, as_word, bare, is_line, RplLine, Header as HeaderLine, rpl_placed, Outside, InSet, InPolicy, within, behind, MayBeWritten as MayFollow}
 use Rattle.text_words.specs.declared.fault.TextFault.{TextFault}
+use Rattle.text_words.specs.declared.memory.Memory.{Memory}
 use Rattle.text_words.specs.declared.rpl_blocks.BlockKind.{BlockKind}
 use Rattle.text_words.specs.declared.rpl_blocks.BlockKind.TheVariants.{PrefixSet as PrefixBlock, CommunitySet as CommunityBlock, PathSet as PathBlock, Policy as PolicyBlock}
 use Rattle.text_words.specs.declared.statement.Statement.{Statement}
@@ -241,3 +242,17 @@ forms_read fs h =
 
 pub forms_named : (fs : List RplForm) → MayBeWritten fs → block_names None (rpl_cut (text_of fs)) ≡ Some (names_of fs)
 forms_named fs h = ap (λ (ss : List Statement). block_names None ss) (text_cut fs h) ∙ ((reads None [] 1 fs h).says 0).names
+
+-- ---- what is written
+
+pub reads_written : (fs : List RplForm) (r : Result (List ℕ) Memory) → MayBeWritten fs → IfOk r (λ t. t ≡ text_of fs) → IfOk r (λ t. ReadsAs t fs)
+reads_written fs (Ok t) h e = subst (λ (x : List ℕ). ReadsAs x fs) (sym e) (forms_read fs h)
+reads_written fs (Err m) h e = tt
+
+pub tree_written : (fs : List RplForm) (r : Result (List ℕ) Memory) → MayBeWritten fs → IfOk r (λ t. t ≡ text_of fs) → IfOk r (λ t. option_map forms (rpl_tree t) ≡ Some fs)
+tree_written fs (Ok t) h e = ap (λ (x : List ℕ). option_map forms (rpl_tree x)) e ∙ forms_tree fs h
+tree_written fs (Err m) h e = tt
+
+pub blocks_written : (fs : List RplForm) (r : Result (List ℕ) Memory) → MayBeWritten fs → IfOk r (λ t. t ≡ text_of fs) → IfOk r (λ t. block_names None (rpl_cut t) ≡ Some (names_of fs))
+blocks_written fs (Ok t) h e = ap (λ (x : List ℕ). block_names None (rpl_cut x)) e ∙ forms_named fs h
+blocks_written fs (Err m) h e = tt

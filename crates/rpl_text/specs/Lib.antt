@@ -3,3 +3,4 @@ pub mod Words
 pub mod Layout
 pub mod Written
 pub mod Blocks
+pub mod Texts
