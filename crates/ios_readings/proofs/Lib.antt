@@ -1,0 +1,6 @@
+-- The laws that the answers cite.
+pub mod Kept
+pub mod Ordered
+pub mod Settled
+pub mod Agree
+mod Examples
