@@ -35,7 +35,7 @@ EachLeaves all (e ∷ es) = AllByRecursion (Leaves all e) es × EachLeaves all e
 abbrev pub HoldsAlike : List IosItem → RouteParts → List Entry → Entry → Type 0
 HoldsAlike all r held f = entry_holds all (set_by_entries all held r) f ≡ entry_holds all r f
 
-one_more : (all : List IosItem) (held : List Entry) (e : Entry) (r : RouteParts) → set_by_entries all (held ++ e ∷ []) r ≡ set_by_entry all e (set_by_entries all held r)
+pub one_more : (all : List IosItem) (held : List Entry) (e : Entry) (r : RouteParts) → set_by_entries all (held ++ e ∷ []) r ≡ set_by_entry all e (set_by_entries all held r)
 one_more all [] e r = refl
 one_more all (h ∷ held) e r = one_more all held e (set_by_entry all h r)
 
@@ -62,7 +62,7 @@ goes_on ls true target e c = refl
 goes_on ls false target e c = let none = lines_end ls e in absurd cc
 
 -- what an entry makes of the run
-abbrev decided : Bool → Bool → Option (Option ℕ) → ℕ → Outcome → Outcome → (ℕ → Outcome) → Outcome
+abbrev pub decided : Bool → Bool → Option (Option ℕ) → ℕ → Outcome → Outcome → (ℕ → Outcome) → Outcome
 decided holds permit next least passed accepted on = elim holds [
   | false ↦ passed
   | true ↦ elim permit [
@@ -71,7 +71,7 @@ decided holds permit next least passed accepted on = elim holds [
   ]
 ]
 
-decided_alike : (holds permit : Bool) (next : Option (Option ℕ)) (least : ℕ) (passed other accepted : Outcome) (on at : ℕ → Outcome) → passed ≡ other → ((target : Option ℕ) → next ≡ Some target → (s : ℕ) → on s ≡ at s)
+pub decided_alike : (holds permit : Bool) (next : Option (Option ℕ)) (least : ℕ) (passed other accepted : Outcome) (on at : ℕ → Outcome) → passed ≡ other → ((target : Option ℕ) → next ≡ Some target → (s : ℕ) → on s ≡ at s)
     → decided holds permit next least passed accepted on ≡ decided holds permit next least other accepted at
 decided_alike false permit next least passed other accepted on at e f = e
 decided_alike true false next least passed other accepted on at e f = refl
@@ -106,10 +106,13 @@ module _ (name : List ℕ) (all : List IosItem) (sound : IsSoundWithin all_forms
   each_leaves [] ascends among settled = tt
   each_leaves (e ∷ es) ascends among settled = (leaves_behind e es among.0 ascends.0 settled.1, each_leaves es ascends.1 among.1 settled.1)
 
+  pub ordered_ascends : Ascends (λ e. e.number) (in_order (λ e. e.number) (entries_of name all))
+  ordered_ascends = ascends_in_order (λ e. e.number) (entries_of name all) (entries_apart name all sound [] all refl)
+
   pub ordered_leaves : EachLeaves all (in_order (λ e. e.number) (entries_of name all))
   ordered_leaves =
       each_leaves (in_order (λ e. e.number) (entries_of name all))
-      (ascends_in_order (λ e. e.number) (entries_of name all) (entries_apart name all sound [] all refl))
+      ordered_ascends
       (all_in_order (λ e. e.number) (IsAmong name all sound (entries_of name all)) (entries_of name all) (all_among name all sound (entries_of name all) (entries_of name all) (λ test n. n)))
       (all_in_order (λ e. e.number) (IsSettledEntry name all sound) (entries_of name all) (entries_settled name all sound [] all refl))
 

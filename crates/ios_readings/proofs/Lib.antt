@@ -3,4 +3,5 @@ pub mod Kept
 pub mod Ordered
 pub mod Settled
 pub mod Agree
+pub mod AtOnce
 mod Examples
