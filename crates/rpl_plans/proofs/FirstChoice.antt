@@ -29,7 +29,7 @@ denies_step true true later = refl
 denies_step true false later = refl
 denies_step false here later = refl
 
-joined_parts : {A : Type 0} (b : Bool) (o : Option A) (x : A) → elim b [ true ↦ o | false ↦ None ] ≡ Some x → (b ≡ true) × (o ≡ Some x)
+pub joined_parts : {A : Type 0} (b : Bool) (o : Option A) (x : A) → elim b [ true ↦ o | false ↦ None ] ≡ Some x → (b ≡ true) × (o ≡ Some x)
 joined_parts true o x e = (refl, e)
 joined_parts false o x e = absurd cc
 

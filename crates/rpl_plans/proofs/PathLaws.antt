@@ -11,6 +11,7 @@ use Rattle.aspath_text.specs.declared.items.TokenPattern.{TokenPattern}
 use Rattle.aspath_text.specs.declared.pattern.IosBranch.{IosBranch}
 use Rattle.route_types.specs.Route.{RouteParts}
 use Rattle.rpl_plans.specs.Choices.{first_choice, first_or}
+use Rattle.rpl_plans.specs.Fits.{FitsText}
 use Rattle.rpl_plans.specs.Holds.{text_finds}
 use Rattle.rpl_plans.specs.declared.choice.Choice.{Choice}
 use Rattle.rpl_plans.specs.declared.test.PlannedTest.{PlannedTest}
@@ -52,3 +53,7 @@ path_said p text h r is =
     or_none (text_finds text r.path)
     ∙ ap (λ (o : Option (List IosBranch)). elim o [ None ↦ false | Some q ↦ finds_in q r.path ]) (ios_pattern_only text bs h.1.1)
     ∙ decides_same (finds_in bs r.path) (path_matches p r.path) (finds_in_decides bs r.path) (path_decides p r.path) (λ f. (h.1.2 r.path is).0 f) (λ m. (h.1.2 r.path is).1 m)
+
+-- and spells a pattern
+pub text_fits : (p : TokenPattern) (text : List ℕ) → PrintsIos p (Some text) → FitsText text
+text_fits p text h = (h.1.0, ios_pattern_only text h.1.0 h.1.1)

@@ -1,11 +1,15 @@
 // What a step changes, an attribute at a time.
-ghost use Rattle.std.specs.Prelude.{◌≡◌, List, IfOk};
+ghost use Rattle.std.specs.Prelude.{◌≡◌, true, List, IfOk};
+ghost use Rattle.std.specs.List.{list_all};
+ghost use Rattle.policy_core.specs.Sayable.{rpl_change};
 ghost use Rattle.route_types.specs.Change.{changed, changed_by};
 ghost use Rattle.route_types.specs.Community.{set_after};
 ghost use Rattle.route_types.specs.Route.{RouteParts};
 ghost use Rattle.route_types.specs.declared.community.Community.{Community};
 ghost use Rattle.rpl_plans.specs.Actions.{acted_by, communities_after};
+ghost use Rattle.rpl_plans.specs.Fits.{FitsActions};
 
+use crate::ranges::change_fits;
 use community_sets::then;
 use route_types::{Change, CommChange, Duplicate, Memory, NextHop, Origin, Row};
 use std::alloc::Global;
@@ -24,9 +28,12 @@ pub struct PlannedActions {
     pub communities: Option<CommChange>,
 }
 
-/// What changes, made one after the other, change at the end, an attribute at a time. The one error is want of memory.
+/// What changes that a text of RPL can say, made one after the other, change at the end, an attribute at a time. The one
+/// error is want of memory.
 pub fn planned_actions(alloc: Global, changes: &[Change]) -> Result<PlannedActions, Memory>
-    ensures { IfOk result (λ planned. (r : RouteParts) → acted_by planned r ≡ changed_by changes.now r) }
+    requires { list_all rpl_change changes.now ≡ true }
+    ensures acts { IfOk result (λ planned. (r : RouteParts) → acted_by planned r ≡ changed_by changes.now r) }
+    ensures fits { IfOk result (λ planned. FitsActions planned) }
 {
     let mut planned = PlannedActions {
         local_preference: None,
@@ -46,8 +53,11 @@ pub fn planned_actions(alloc: Global, changes: &[Change]) -> Result<PlannedActio
 }
 
 // Makes one more change behind those that are planned.
+#[tactic(auto, using(crate::proofs::FitLaws::all_with))]
 fn add(alloc: Global, planned: &mut PlannedActions, change: &Change) -> Result<(), Memory>
-    ensures { IfOk result (λ _. (r : RouteParts) → acted_by planned.new r ≡ changed change.now (acted_by planned.old r)) }
+    requires { rpl_change change.now ≡ true }
+    ensures acts { IfOk result (λ _. (r : RouteParts) → acted_by planned.new r ≡ changed change.now (acted_by planned.old r)) }
+    ensures fits { IfOk result (λ _. FitsActions planned.old → FitsActions planned.new) }
 {
     match change {
         Change::NextHop(next_hop) => planned.next_hop = Some(*next_hop),
@@ -58,6 +68,7 @@ fn add(alloc: Global, planned: &mut PlannedActions, change: &Change) -> Result<(
         Change::Weight(number) => planned.weight = Some(*number),
         Change::Communities(change) => {
             let joined = joined_change(alloc, &planned.communities, change)?;
+            change_fits(&joined);
             planned.communities = Some(joined);
         }
     }

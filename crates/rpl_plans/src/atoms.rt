@@ -1,14 +1,16 @@
 // The terms of a test: those of each of its lists, in order.
 ghost use Rattle.std.specs.Prelude.{◌≡◌, ◌||◌, ◌==◌, true, IfOk};
-ghost use Rattle.std.specs.List.{list_any};
+ghost use Rattle.std.specs.List.{list_any, list_all, AllByRecursion};
 ghost use Rattle.aspath_text.specs.Items.{IsPath};
 ghost use Rattle.community_sets.specs.Tests.{list_answers};
 ghost use Rattle.core_nodes.specs.Atoms.{path_answers, atom_holds};
+ghost use Rattle.policy_core.specs.Ranges.{list_in_range};
 ghost use Rattle.policy_core.specs.Sayable.{is_all_of, lists_are, rpl_atom};
 ghost use Rattle.prefix_sets.specs.FirstMatch.{first_match, hop_match};
 ghost use Rattle.route_types.specs.Route.{RouteParts, InRange};
 ghost use Rattle.rpl_plans.specs.Choices.{term_holds, terms_hold, alone};
 ghost use Rattle.rpl_plans.specs.Entries.{prefix_terms, comm_terms, med_terms};
+ghost use Rattle.rpl_plans.specs.Fits.{FitsTest, FitsTerm, FitsTerms};
 ghost use Rattle.rpl_plans.specs.Holds.{planned_holds};
 
 use crate::choice::{PlannedTerm, PlannedTerms};
@@ -29,7 +31,9 @@ fn prefix_terms(
     asked: RouteAddress,
     lists: &[PrefixList],
 ) -> Result<Row<PlannedTerm>, Memory>
-    ensures { IfOk result (λ found. found ≡ prefix_terms asked lists.now) }
+    requires { list_all list_in_range lists.now ≡ true }
+    ensures same { IfOk result (λ found. found ≡ prefix_terms asked lists.now) }
+    ensures fits { IfOk result (λ found. AllByRecursion FitsTerm found) }
 {
     let mut found = Row::new(alloc);
     let mut rest = lists;
@@ -44,7 +48,8 @@ fn prefix_terms(
 // The terms of community lists.
 #[tactic(auto, unfolding(crate::specs::Entries::comm_terms))]
 fn comm_terms(alloc: Global, lists: &[CommList]) -> Result<Row<PlannedTerm>, Memory>
-    ensures { IfOk result (λ found. found ≡ comm_terms lists.now) }
+    ensures same { IfOk result (λ found. found ≡ comm_terms lists.now) }
+    ensures fits { IfOk result (λ found. AllByRecursion FitsTerm found) }
 {
     let mut found = Row::new(alloc);
     let mut rest = lists;
@@ -62,7 +67,8 @@ fn push_path_list(
     found: &mut Row<PlannedTerm>,
     list: &PathList,
 ) -> Result<(), Memory>
-    ensures { IfOk result (λ _. (r : RouteParts) → IsPath r.path → list_any (term_holds (planned_holds r)) found.new ≡ (list_any (term_holds (planned_holds r)) found.old || path_answers list.now.entries r.path)) }
+    ensures fits { IfOk result (λ _. AllByRecursion FitsTerm found.old → AllByRecursion FitsTerm found.new) }
+    ensures holds { IfOk result (λ _. (r : RouteParts) → IsPath r.path → list_any (term_holds (planned_holds r)) found.new ≡ (list_any (term_holds (planned_holds r)) found.old || path_answers list.now.entries r.path)) }
 {
     let choices = path_choices(alloc, list.entries.as_slice())?;
     push_terms(alloc, found, choices.as_slice())?;
@@ -71,7 +77,8 @@ fn push_path_list(
 
 // The terms of path lists.
 fn path_terms(alloc: Global, lists: &[PathList]) -> Result<Row<PlannedTerm>, Memory>
-    ensures { IfOk result (λ found. (r : RouteParts) → IsPath r.path → list_any (term_holds (planned_holds r)) found ≡ list_any (λ l. path_answers l.entries r.path) lists.now) }
+    ensures fits { IfOk result (λ found. AllByRecursion FitsTerm found) }
+    ensures holds { IfOk result (λ found. (r : RouteParts) → IsPath r.path → list_any (term_holds (planned_holds r)) found ≡ list_any (λ l. path_answers l.entries r.path) lists.now) }
 {
     let mut found = Row::new(alloc);
     let mut rest = lists;
@@ -84,7 +91,8 @@ fn path_terms(alloc: Global, lists: &[PathList]) -> Result<Row<PlannedTerm>, Mem
 
 // One test as terms.
 fn alone(alloc: Global, test: PlannedTest) -> PlannedTerms
-    ensures { result ≡ alone test }
+    ensures same { result ≡ alone test }
+    ensures fits { FitsTest test → FitsTerms result }
 {
     PlannedTerms {
         first: PlannedTerm {
@@ -96,9 +104,10 @@ fn alone(alloc: Global, test: PlannedTest) -> PlannedTerms
 }
 
 // The terms of numbers of which the MED is one.
-#[tactic(auto, unfolding(crate::specs::Entries::med_terms))]
+#[tactic(auto, using(crate::proofs::FitLaws::all_with), unfolding(crate::specs::Entries::med_terms))]
 fn med_terms(alloc: Global, numbers: &[u32]) -> Result<Row<PlannedTerm>, Memory>
-    ensures { IfOk result (λ found. found ≡ med_terms numbers.now) }
+    ensures same { IfOk result (λ found. found ≡ med_terms numbers.now) }
+    ensures fits { IfOk result (λ found. AllByRecursion FitsTerm found) }
 {
     let mut found = Row::new(alloc);
     let mut rest = numbers;
@@ -114,7 +123,9 @@ fn med_terms(alloc: Global, numbers: &[u32]) -> Result<Row<PlannedTerm>, Memory>
 
 // A list permits the destination.
 fn destination(alloc: Global, lists: &[PrefixList]) -> Result<PlannedTerms, Memory>
-    ensures { IfOk result (λ ts. (r : RouteParts) → InRange r → terms_hold (planned_holds r) ts ≡ list_any (λ l. first_match l.entries r.prefix) lists.now) }
+    requires { list_all list_in_range lists.now ≡ true }
+    ensures fits { IfOk result (λ ts. FitsTerms ts) }
+    ensures holds { IfOk result (λ ts. (r : RouteParts) → InRange r → terms_hold (planned_holds r) ts ≡ list_any (λ l. first_match l.entries r.prefix) lists.now) }
 {
     let terms = prefix_terms(alloc, RouteAddress::Destination, lists)?;
     let never = PlannedTest::Destination(Row::new(alloc));
@@ -123,7 +134,9 @@ fn destination(alloc: Global, lists: &[PrefixList]) -> Result<PlannedTerms, Memo
 
 // A list permits the next hop.
 fn next_hop(alloc: Global, lists: &[PrefixList]) -> Result<PlannedTerms, Memory>
-    ensures { IfOk result (λ ts. (r : RouteParts) → InRange r → terms_hold (planned_holds r) ts ≡ list_any (λ l. hop_match l.entries r.next_hop) lists.now) }
+    requires { list_all list_in_range lists.now ≡ true }
+    ensures fits { IfOk result (λ ts. FitsTerms ts) }
+    ensures holds { IfOk result (λ ts. (r : RouteParts) → InRange r → terms_hold (planned_holds r) ts ≡ list_any (λ l. hop_match l.entries r.next_hop) lists.now) }
 {
     let terms = prefix_terms(alloc, RouteAddress::NextHop, lists)?;
     let never = PlannedTest::NextHop(Row::new(alloc));
@@ -132,7 +145,8 @@ fn next_hop(alloc: Global, lists: &[PrefixList]) -> Result<PlannedTerms, Memory>
 
 // A list permits the path.
 fn path(alloc: Global, lists: &[PathList]) -> Result<PlannedTerms, Memory>
-    ensures { IfOk result (λ ts. (r : RouteParts) → InRange r → terms_hold (planned_holds r) ts ≡ list_any (λ l. path_answers l.entries r.path) lists.now) }
+    ensures fits { IfOk result (λ ts. FitsTerms ts) }
+    ensures holds { IfOk result (λ ts. (r : RouteParts) → InRange r → terms_hold (planned_holds r) ts ≡ list_any (λ l. path_answers l.entries r.path) lists.now) }
 {
     let terms = path_terms(alloc, lists)?;
     let never = PlannedTest::PathIn(Row::new(alloc));
@@ -142,7 +156,8 @@ fn path(alloc: Global, lists: &[PathList]) -> Result<PlannedTerms, Memory>
 // A list permits the communities.
 fn communities(alloc: Global, lists: &[CommList]) -> Result<PlannedTerms, Memory>
     requires { lists_are is_all_of lists.now ≡ true }
-    ensures { IfOk result (λ ts. (r : RouteParts) → InRange r → terms_hold (planned_holds r) ts ≡ list_any (λ l. list_answers l.entries r.communities) lists.now) }
+    ensures fits { IfOk result (λ ts. FitsTerms ts) }
+    ensures holds { IfOk result (λ ts. (r : RouteParts) → InRange r → terms_hold (planned_holds r) ts ≡ list_any (λ l. list_answers l.entries r.communities) lists.now) }
 {
     let terms = comm_terms(alloc, lists)?;
     let never = PlannedTest::MatchesAny(Row::new(alloc));
@@ -151,7 +166,8 @@ fn communities(alloc: Global, lists: &[CommList]) -> Result<PlannedTerms, Memory
 
 // The MED is one of the numbers.
 fn med(alloc: Global, numbers: &[u32]) -> Result<PlannedTerms, Memory>
-    ensures { IfOk result (λ ts. (r : RouteParts) → InRange r → terms_hold (planned_holds r) ts ≡ list_any (λ n. r.med == n) numbers.now) }
+    ensures fits { IfOk result (λ ts. FitsTerms ts) }
+    ensures holds { IfOk result (λ ts. (r : RouteParts) → InRange r → terms_hold (planned_holds r) ts ≡ list_any (λ n. r.med == n) numbers.now) }
 {
     let terms = med_terms(alloc, numbers)?;
     let never = PlannedTest::Destination(Row::new(alloc));
@@ -162,7 +178,8 @@ fn med(alloc: Global, numbers: &[u32]) -> Result<PlannedTerms, Memory>
 /// memory.
 pub fn planned_terms(alloc: Global, atom: &Atom) -> Result<PlannedTerms, Memory>
     requires { rpl_atom atom.now ≡ true }
-    ensures { IfOk result (λ ts. (r : RouteParts) → InRange r → terms_hold (planned_holds r) ts ≡ atom_holds atom.now r) }
+    ensures fits { IfOk result (λ ts. FitsTerms ts) }
+    ensures holds { IfOk result (λ ts. (r : RouteParts) → InRange r → terms_hold (planned_holds r) ts ≡ atom_holds atom.now r) }
 {
     match atom {
         Atom::Prefix(lists) => destination(alloc, lists.as_slice()),

@@ -12,6 +12,7 @@ mod entries;
 mod grouping;
 mod paths;
 mod plans;
+mod ranges;
 mod step;
 mod terms;
 mod test;

@@ -1,10 +1,12 @@
 // The entries of path lists as what conditions ask: each by the text of its pattern as an IOS pattern.
 ghost use Rattle.std.specs.Prelude.{◌≡◌, Bool, true, false, IfOk};
+ghost use Rattle.std.specs.List.{AllByRecursion};
 ghost use Rattle.aspath_text.specs.Items.{IsPath};
 ghost use Rattle.aspath_text.specs.PathMatches.{path_matches};
 ghost use Rattle.core_nodes.specs.Atoms.{path_answers};
 ghost use Rattle.route_types.specs.Route.{RouteParts};
 ghost use Rattle.rpl_plans.specs.Choices.{first_or};
+ghost use Rattle.rpl_plans.specs.Fits.{FitsValue, FitsTest, FitsChoice};
 ghost use Rattle.rpl_plans.specs.Holds.{planned_holds, SaysPath};
 
 use crate::choice::Choice;
@@ -16,7 +18,8 @@ use std::alloc::Global;
 
 // The test of a pattern; none where no path matches it.
 fn path_test(alloc: Global, pattern: &TokenPattern) -> Result<Option<PlannedTest>, Memory>
-    ensures { IfOk result (SaysPath pattern.now) }
+    ensures says { IfOk result (SaysPath pattern.now) }
+    ensures fits { IfOk result (λ test. FitsValue FitsTest test) }
 {
     match print_ios(alloc, pattern)? {
         None => Ok(None),
@@ -30,7 +33,8 @@ fn path_test(alloc: Global, pattern: &TokenPattern) -> Result<Option<PlannedTest
 
 // Adds what an entry asks, if a path can match it.
 fn push_path(alloc: Global, found: &mut Row<Choice>, entry: &PathEntry) -> Result<(), Memory>
-    ensures { IfOk result (λ _. (r : RouteParts) (later : Bool) → IsPath r.path → first_or (planned_holds r) found.new later ≡ first_or (planned_holds r) found.old (elim (path_matches entry.now.pattern r.path) [ true ↦ entry.now.permit | false ↦ later ])) }
+    ensures fits { IfOk result (λ _. AllByRecursion FitsChoice found.old → AllByRecursion FitsChoice found.new) }
+    ensures holds { IfOk result (λ _. (r : RouteParts) (later : Bool) → IsPath r.path → first_or (planned_holds r) found.new later ≡ first_or (planned_holds r) found.old (elim (path_matches entry.now.pattern r.path) [ true ↦ entry.now.permit | false ↦ later ])) }
 {
     match path_test(alloc, &entry.pattern)? {
         None => Ok(()),
@@ -47,7 +51,8 @@ fn push_path(alloc: Global, found: &mut Row<Choice>, entry: &PathEntry) -> Resul
 // What the entries of a path list ask.
 #[tactic(auto, unfolding(core_nodes::specs::Atoms::path_answers))]
 pub(crate) fn path_choices(alloc: Global, entries: &[PathEntry]) -> Result<Row<Choice>, Memory>
-    ensures { IfOk result (λ found. (r : RouteParts) → IsPath r.path → first_or (planned_holds r) found false ≡ path_answers entries.now r.path) }
+    ensures fits { IfOk result (λ found. AllByRecursion FitsChoice found) }
+    ensures holds { IfOk result (λ found. (r : RouteParts) → IsPath r.path → first_or (planned_holds r) found false ≡ path_answers entries.now r.path) }
 {
     let mut found = Row::new(alloc);
     let mut rest = entries;

@@ -5,8 +5,8 @@ use Rattle.rpl_plans.specs.Actions.{acted_by, prepended}
 use Rattle.rpl_plans.proofs.ActionLaws.{one_more}
 use Rattle.rpl_plans.proofs.actions.add.Goals as goal
 
-pub returns-in_ok-push-in-Prepend : goal.returns-in_ok-push-in-Prepend
-returns-in_ok-push-in-Prepend c r =
+pub returns-in_ok-push-in-Prepend-clause-acts : goal.returns-in_ok-push-in-Prepend-clause-acts
+returns-in_ok-push-in-Prepend-clause-acts c r =
     ap (λ (path : List ℕ). record (acted_by c.args.planned.now r) { path = path })
     (ap (λ (ns : List ℕ). prepended ns r.path) c.in_ok-push-in-Prepend.ensures ∙ one_more c.args.planned.now.prepended c.in-Prepend.number r.path)
     ∙ ap (λ (k : Change). changed k (acted_by c.args.planned.now r)) (sym c.in-Prepend.is)

@@ -1,27 +1,34 @@
-use Rattle.std.proofs.Common.{◌∙◌, ◌-◌, ◌||◌, ap, sym, length, Bool, List}
+use Rattle.std.proofs.Common.{◌∙◌, ◌-◌, ◌||◌, ap, sym, subst, length, Bool, List}
 use Rattle.std.specs.Prelude.{take, drop}
-use Rattle.std.specs.List.{list_any}
+use Rattle.std.specs.List.{list_any, AllByRecursion}
 use Rattle.aspath_text.proofs.Lists.{first_tail}
 use Rattle.core_nodes.specs.Atoms.{path_answers}
 use Rattle.core_nodes.specs.declared.atom.PathList.{PathList}
 use Rattle.rpl_plans.specs.Choices.{term_holds}
+use Rattle.rpl_plans.specs.Fits.{FitsTerm}
 use Rattle.rpl_plans.specs.Holds.{planned_holds}
 use Rattle.rpl_plans.specs.declared.choice.PlannedTerm.{PlannedTerm}
 use Rattle.rpl_plans.proofs.AtomLaws.{or_none, or_three, none_left}
 use Rattle.rpl_plans.proofs.atoms.path_terms.Goals as goal
 
 pub loop-rest-init : goal.loop-rest-init
-loop-rest-init c r is = ap (λ (ts : List PlannedTerm). list_any (term_holds (planned_holds r)) ts || list_any (λ k. path_answers k.entries r.path) c.args.lists.now) c.new-found.ensures
+loop-rest-init c = record {
+  holds = λ r is. ap (λ (ts : List PlannedTerm). list_any (term_holds (planned_holds r)) ts || list_any (λ k. path_answers k.entries r.path) c.args.lists.now) c.new-found.ensures;
+  fits = subst (λ (ts : List PlannedTerm). AllByRecursion FitsTerm ts) (sym c.new-found.ensures) tt;
+}
 
 pub loop-rest-preserved : goal.loop-rest-preserved
-loop-rest-preserved c r is =
-    ap (λ (b : Bool). b || list_any (λ k. path_answers k.entries r.path) (take (length c.loop-rest.rest.now - 1) (drop 1 c.loop-rest.rest.now))) (c.in_ok-push_path_list.ensures r is)
-    ∙ or_three (list_any (term_holds (planned_holds r)) c.loop-rest.found) (path_answers c.first-item.result.entries r.path) (list_any (λ k. path_answers k.entries r.path) (take (length c.loop-rest.rest.now - 1) (drop 1 c.loop-rest.rest.now)))
-    ∙ ap (λ (ls : List PathList). list_any (term_holds (planned_holds r)) c.loop-rest.found || list_any (λ k. path_answers k.entries r.path) ls) (sym (first_tail c.loop-rest.rest.now c.first-item.result c.in-len1-up.len_at_least c.first-item.is))
-    ∙ c.loop-rest.invariant r is
+loop-rest-preserved c = record {
+  holds = λ r is.
+      ap (λ (b : Bool). b || list_any (λ k. path_answers k.entries r.path) (take (length c.loop-rest.rest.now - 1) (drop 1 c.loop-rest.rest.now))) (c.in_ok-push_path_list.ensures.holds r is)
+      ∙ or_three (list_any (term_holds (planned_holds r)) c.loop-rest.found) (path_answers c.first-item.result.entries r.path) (list_any (λ k. path_answers k.entries r.path) (take (length c.loop-rest.rest.now - 1) (drop 1 c.loop-rest.rest.now)))
+      ∙ ap (λ (ls : List PathList). list_any (term_holds (planned_holds r)) c.loop-rest.found || list_any (λ k. path_answers k.entries r.path) ls) (sym (first_tail c.loop-rest.rest.now c.first-item.result c.in-len1-up.len_at_least c.first-item.is))
+      ∙ c.loop-rest.invariant.holds r is;
+  fits = c.in_ok-push_path_list.ensures.fits c.loop-rest.invariant.fits;
+}
 
-pub returns : goal.returns
-returns c r is =
+pub returns-clause-holds : goal.returns-clause-holds
+returns-clause-holds c r is =
     sym (or_none (list_any (term_holds (planned_holds r)) c.loop-rest.found))
     ∙ ap (λ (ls : List PathList). list_any (term_holds (planned_holds r)) c.loop-rest.found || list_any (λ k. path_answers k.entries r.path) ls) (sym (none_left c.loop-rest.rest.now c.in_default.len_below))
-    ∙ c.loop-rest.invariant r is
+    ∙ c.loop-rest.invariant.holds r is

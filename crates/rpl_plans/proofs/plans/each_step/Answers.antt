@@ -5,7 +5,7 @@ use Rattle.rpl_plans.specs.declared.step.PlannedStep.{PlannedStep}
 use Rattle.rpl_plans.proofs.AtomLaws.{none_left}
 use Rattle.rpl_plans.proofs.plans.each_step.Goals as goal
 
-pub returns : goal.returns
-returns c =
+pub returns-clause-says : goal.returns-clause-says
+returns-clause-says c =
     subst (λ (ps : List PlannedStep). SaysSteps c.args.steps.now ps) (append-nil c.loop-rest.found)
-    (c.loop-rest.invariant.0 [] (subst (λ (rest : List Step). SaysSteps rest []) (sym (none_left c.loop-rest.rest.now c.in_default.len_below)) tt))
+    (c.loop-rest.invariant.says [] (subst (λ (rest : List Step). SaysSteps rest []) (sym (none_left c.loop-rest.rest.now c.in_default.len_below)) tt))

@@ -5,7 +5,7 @@ use Rattle.rpl_plans.specs.declared.step.PlannedLiteral.{PlannedLiteral}
 use Rattle.rpl_plans.proofs.AtomLaws.{none_left}
 use Rattle.rpl_plans.proofs.plans.planned_guard.Goals as goal
 
-pub returns : goal.returns
-returns c =
+pub returns-clause-says : goal.returns-clause-says
+returns-clause-says c =
     subst (λ (ps : List PlannedLiteral). SaysGuard c.args.guard.now ps) (append-nil c.loop-rest.found)
-    (c.loop-rest.invariant.0 [] (subst (λ (rest : List Literal). SaysGuard rest []) (sym (none_left c.loop-rest.rest.now c.in_default.len_below)) tt))
+    (c.loop-rest.invariant.says [] (subst (λ (rest : List Literal). SaysGuard rest []) (sym (none_left c.loop-rest.rest.now c.in_default.len_below)) tt))
