@@ -1,0 +1,6 @@
+mod Examples
+pub mod Rows
+pub mod Noted
+pub mod AnyTells
+pub mod Postfix
+pub mod Acts

@@ -1,0 +1,5 @@
+pub mod Own
+pub mod Noting
+pub mod Postfix
+pub mod Acts
+pub mod Names
