@@ -1,0 +1,79 @@
+-- The text of the forms of a plan prints the steps that were planned.
+use Rattle.std.proofs.Common.{◌≡◌, refl, sym, ap, subst, ◌∙◌, ℕ, List, Option, Some, None}
+use Rattle.std.specs.Prelude.{option_map}
+use Rattle.std.specs.List.{AllByRecursion}
+use Rattle.std.proofs.lemmas.Option.{same_Some}
+use Rattle.route_types.specs.Route.{RouteParts, InRange}
+use Rattle.text_words.specs.RplCut.{rpl_cut}
+use Rattle.policy_core.specs.Guards.{outcome_of}
+use Rattle.policy_core.specs.declared.step.Step.{Step}
+use Rattle.rpl_forms.specs.declared.item.RplForm.{RplForm}
+use Rattle.rpl_forms.specs.declared.item.RplItem.{RplItem}
+use Rattle.rpl_tree.specs.Tree.{forms, rpl_tree}
+use Rattle.rpl_meaning.specs.Meaning.{rpl_meaning}
+use Rattle.rpl_plans.specs.Fits.{FitsSteps}
+use Rattle.rpl_plans.specs.Holds.{planned_holds}
+use Rattle.rpl_plans.specs.Plans.{planned_outcome}
+use Rattle.rpl_plans.specs.declared.step.PlannedStep.{PlannedStep}
+use Rattle.rpl_layout.specs.Forms.{HasFew, NamesItsSets, forms_of}
+use Rattle.rpl_layout.specs.Sharing.{sets_of, written_by}
+use Rattle.rpl_layout.proofs.InProfile.{plan_in_profile}
+use Rattle.rpl_layout.proofs.Meaning.{plan_means}
+use Rattle.rpl_layout.proofs.Sharing.{names_sets}
+use Rattle.rpl_text.specs.Blocks.{block_names, names_of}
+use Rattle.rpl_text.specs.Written.{HeadsBlock, MayBeWritten}
+use Rattle.rpl_policies.specs.Own.{own}
+use Rattle.rpl_writable.specs.Names.{IsOwnName}
+use Rattle.rpl_writable.proofs.OwnNames.{own_names}
+use Rattle.rpl_writable.proofs.Writable.{plan_writable}
+use Rattle.rpl_printer.specs.Printed.{Prints}
+
+-- the forms of planned steps, each set by its equality
+abbrev pub planned_forms : List ℕ → List PlannedStep → List RplForm
+planned_forms name steps = forms_of name (sets_of own steps) (written_by own name (sets_of own steps)) steps
+
+-- a tree that says some forms is there
+tree_of : (o : Option (List RplItem)) (fs : List RplForm) → option_map forms o ≡ Some fs → (items : List RplItem) × (o ≡ Some items) × (forms items ≡ fs)
+tree_of None fs e = absurd cc
+tree_of (Some items) fs e = (items, refl, same_Some (forms items) fs e)
+
+-- forms that are lent are those of planned steps, and their sets can be counted
+pub record AreForms (name : List ℕ) (steps : List PlannedStep) (fs : List RplForm) : Type 0 where
+  pub few : HasFew (sets_of own steps)
+  pub are : fs ≡ planned_forms name steps
+
+-- the same steps and the same forms, as they are lent to what makes and what writes them
+pub lent_forms : (name : List ℕ) (steps lent : List PlannedStep) (fs given : List RplForm) → lent ≡ steps → HasFew (sets_of own lent) → fs ≡ planned_forms name lent → given ≡ fs → AreForms name steps given
+lent_forms name steps lent fs given same few are also = record {
+  few = subst (λ (ss : List PlannedStep). HasFew (sets_of own ss)) same few;
+  are = also ∙ are ∙ ap (planned_forms name) same;
+}
+
+-- planned steps that fit may be written
+pub may_be_written : (name : List ℕ) (steps : List PlannedStep) (fs : List RplForm) → HeadsBlock name → FitsSteps steps → AreForms name steps fs → MayBeWritten fs
+may_be_written name steps fs heads fit is = subst MayBeWritten (sym is.are) (plan_writable own name steps heads is.few fit)
+
+-- their text prints the steps
+pub printed : (name text : List ℕ) (steps : List Step) (planned : List PlannedStep) (fs : List RplForm)
+    → ((r : RouteParts) → InRange r → planned_outcome (planned_holds r) planned r ≡ outcome_of steps r)
+    → AreForms name planned fs → option_map forms (rpl_tree text) ≡ Some fs → block_names None (rpl_cut text) ≡ Some (names_of fs) → Prints name steps text
+printed name text steps planned fs same is read blocks =
+    let named : NamesItsSets name (sets_of own planned) (written_by own name (sets_of own planned)) planned = names_sets own name planned is.few in
+    let found = tree_of (rpl_tree text) fs read in
+    let says : forms found.0 ≡ planned_forms name planned = found.2 ∙ is.are in
+    record {
+      items = found.0;
+      tree = found.1;
+      profile = plan_in_profile name (sets_of own planned) (written_by own name (sets_of own planned)) planned found.0 says named.few named.writes;
+      meaning = λ r range.
+          ap (λ (gs : List RplForm). rpl_meaning gs name r) says
+          ∙ plan_means name (sets_of own planned) (written_by own name (sets_of own planned)) planned named.few named.writes r range
+          ∙ same r range;
+      own = record {
+        names = names_of fs;
+        are = blocks;
+        own =
+            subst (λ (gs : List RplForm). AllByRecursion (IsOwnName name) (names_of gs)) (sym is.are)
+            (own_names name (sets_of own planned) (written_by own name (sets_of own planned)) planned);
+      };
+    }
