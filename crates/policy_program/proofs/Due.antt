@@ -5,11 +5,12 @@ use Rattle.std.proofs.lemmas.Bool.Decides.{nat_tests}
 use Rattle.policy_outside.specs.Texts.{Texts, text_at}
 use Rattle.route_types.proofs.RouteSpelled.{not_both_of, spelled_or_refused}
 use Rattle.policy_sources.specs.Source.{Taken, Loaded}
-use Rattle.policy_program.specs.Answer.{Told, CannotRead, IsTooLong, IsBroken, HasNoPolicy, IsOutside, SpellsNoRoute, Answer, Result, Refusal, status_of, status_told}
+use Rattle.policy_program.specs.Answer.{Told, CannotRead, IsTooLong, IsBroken, HasNoPolicy, IsOutside, IsInexpressible, SpellsNoRoute, Answer, Result, Refusal, status_of, status_told}
 use Rattle.policy_request.specs.Words.{Request, Translate, Judge}
-use Rattle.policy_program.specs.Requests.{Input, PolicyFile, RouteFile, inputs_of, taken_by, file_in, IsResult, IsSound, IsUnsound, IsFirstUnsound, AreSound, IsTextOf, HasNoText, AreTextsOf, IsAtTurn, IsDue, IsServed, most_bytes}
+use Rattle.policy_program.specs.Requests.{Input, PolicyFile, RouteFile, inputs_of, taken_by, file_in, IsResult, IsSound, IsUnsound, IsFirstUnsound, AreSound, IsTextOf, HasNoText, AreTextsOf, IsAtTurn, IsDue, IsServed, RightAnswer, IsSayable, most_bytes}
 use Rattle.policy_request.specs.declared.language.Language.TheVariants.{Ios}
 use Rattle.policy_program.proofs.ToldOnce.{told_once, loads_or}
+use Rattle.policy_program.proofs.Saying.{sayable_not, unsayable_once, unsayable_sound, sayable_or}
 use Rattle.policy_program.specs.declared.status.Status.{Status}
 use Rattle.policy_program.specs.declared.status.Status.TheVariants.{Done}
 
@@ -34,6 +35,7 @@ no_text_not texts file text IsTooLong is longer = longer_not (text_at texts file
 no_text_not texts file text (IsBroken place kind) is none = none
 no_text_not texts file text (HasNoPolicy policy) is none = none
 no_text_not texts file text (IsOutside place cause) is none = none
+no_text_not texts file text (IsInexpressible place to kind) is none = none
 no_text_not texts file text (SpellsNoRoute line) is none = none
 
 longer_there : (found : Option (List ℕ)) → found ≡ None → IsSomeAnd found (λ t. most_bytes < length t) → ⊥
@@ -48,14 +50,17 @@ no_text_once texts file IsTooLong CannotRead x y = absurd (longer_there (text_at
 no_text_once texts file CannotRead (IsBroken place kind) x y = absurd y
 no_text_once texts file CannotRead (HasNoPolicy policy) x y = absurd y
 no_text_once texts file CannotRead (IsOutside place cause) x y = absurd y
+no_text_once texts file CannotRead (IsInexpressible place to kind) x y = absurd y
 no_text_once texts file CannotRead (SpellsNoRoute line) x y = absurd y
 no_text_once texts file IsTooLong (IsBroken place kind) x y = absurd y
 no_text_once texts file IsTooLong (HasNoPolicy policy) x y = absurd y
 no_text_once texts file IsTooLong (IsOutside place cause) x y = absurd y
+no_text_once texts file IsTooLong (IsInexpressible place to kind) x y = absurd y
 no_text_once texts file IsTooLong (SpellsNoRoute line) x y = absurd y
 no_text_once texts file (IsBroken place kind) b x y = absurd x
 no_text_once texts file (HasNoPolicy policy) b x y = absurd x
 no_text_once texts file (IsOutside place cause) b x y = absurd x
+no_text_once texts file (IsInexpressible place to kind) b x y = absurd x
 no_text_once texts file (SpellsNoRoute line) b x y = absurd x
 
 texts_once : (texts : Texts) (is : List Input) (ones twos : List (List ℕ)) → AreTextsOf (Some texts) is ones → AreTextsOf (Some texts) is twos → ones ≡ twos
@@ -88,15 +93,15 @@ turn_once texts (i ∷ is) f g a b (inr x) no_f (inr y) no_g = turn_once texts i
 -- ---- what is read of a file
 
 unsound_once : (taken : Taken) (i : Input) (text : List ℕ) (a b : Told) → IsUnsound taken i text a → IsUnsound taken i text b → status_told a ≡ status_told b
-unsound_once taken (PolicyFile file dialect names) text a b x y =
-    let both : Some a ≡ Some b = sym x.2 ∙ told_once taken dialect names text x.0 y.0 x.1 y.1 ∙ y.2 in
+unsound_once taken (PolicyFile file language names) text a b x y =
+    let both : Some a ≡ Some b = sym x.2 ∙ told_once taken language names text x.0 y.0 x.1 y.1 ∙ y.2 in
     let same : a ≡ b = cc in
     ap status_told same
 unsound_once taken (RouteFile file) text a b x y = ap status_told x.1 ∙ ap status_told (sym y.1)
 
 sound_not : (taken : Taken) (i : Input) (text : List ℕ) (a : Told) → IsSound taken i text → IsUnsound taken i text a → ⊥
-sound_not taken (PolicyFile file dialect names) text a is not =
-    let no : None ≡ Some a = told_once taken dialect names text (Loaded is.0) not.0 is.1 not.1 ∙ not.2 in
+sound_not taken (PolicyFile file language names) text a is not =
+    let no : None ≡ Some a = told_once taken language names text (Loaded is.0) not.0 is.1 not.1 ∙ not.2 in
     absurd cc
 sound_not taken (RouteFile file) text a is not = not_both_of text not.0 is.0 not.2 is.1
 
@@ -126,15 +131,33 @@ result_sound (Judge j) (source ∷ []) status text right = absurd right
 result_sound (Judge j) (source ∷ route ∷ []) status text right = (((right.1.policy, right.1.loads), ((right.1.route, right.1.spelled), tt)), right.0)
 result_sound (Judge j) (source ∷ route ∷ other ∷ texts) status text right = absurd right
 
+-- what has a result can be said
+result_sayable : (q : Request) (texts : List (List ℕ)) (status : Status) (text : List ℕ) → IsResult q texts status text → IsSayable q texts
+result_sayable (Translate t) [] status text right = absurd right
+result_sayable (Translate t) (source ∷ []) status text right = (right.1.policy, right.1.loads, right.1.granted)
+result_sayable (Translate t) (source ∷ other ∷ texts) status text right = absurd right
+result_sayable (Judge j) texts status text right = tt
+
+-- refusals that are right on some texts have one status
+refused_once : (q : Request) (texts : List (List ℕ)) (f g : List ℕ) (a b : Told) → RightAnswer q texts (Refusal f a) → RightAnswer q texts (Refusal g b) → status_told a ≡ status_told b
+refused_once q texts f g a b (inl x) (inl y) = first_once (taken_by q) (inputs_of q) texts f g a b x y
+refused_once q texts f g a b (inl x) (inr y) = absurd (first_not (taken_by q) (inputs_of q) texts f a (unsayable_sound q texts g b y) x)
+refused_once q texts f g a b (inr x) (inl y) = absurd (first_not (taken_by q) (inputs_of q) texts g b (unsayable_sound q texts f a x) y)
+refused_once q texts f g a b (inr x) (inr y) = unsayable_once q texts f g a b x y
+
+refused_not : (q : Request) (texts : List (List ℕ)) (f : List ℕ) (a : Told) → AreSound (taken_by q) (inputs_of q) texts → IsSayable q texts → RightAnswer q texts (Refusal f a) → ⊥
+refused_not q texts f a sound can (inl x) = first_not (taken_by q) (inputs_of q) texts f a sound x
+refused_not q texts f a sound can (inr x) = sayable_not q texts f a can x
+
 -- a request that is served is not refused
 pub served_not : (texts : Texts) (q : Request) (file : List ℕ) (about : Told) → IsServed (Some texts) q → IsDue (Some texts) q (Refusal file about) → ⊥
 served_not texts q file about served (inl turn) = turn_not texts (inputs_of q) served.texts file about served.given turn.0 turn.1
 served_not texts q file about served (inr answer) =
-    first_not (taken_by q) (inputs_of q) served.texts file about served.sound
-    (subst (λ (ts : List (List ℕ)). IsFirstUnsound (taken_by q) (inputs_of q) ts file about) (texts_once texts (inputs_of q) answer.texts served.texts answer.given served.given) answer.right)
+    refused_not q served.texts file about served.sound served.sayable
+    (subst (λ (ts : List (List ℕ)). RightAnswer q ts (Refusal file about)) (texts_once texts (inputs_of q) answer.texts served.texts answer.given served.given) answer.right)
 
 served_by : (texts : Texts) (q : Request) (status : Status) (text : List ℕ) → IsDue (Some texts) q (Result status text) → IsServed (Some texts) q
-served_by texts q status text due = record { texts = due.texts; given = due.given; sound = (result_sound q due.texts status text due.right).0 }
+served_by texts q status text due = record { texts = due.texts; given = due.given; sound = (result_sound q due.texts status text due.right).0; sayable = result_sayable q due.texts status text due.right }
 
 -- two answers that are due have one status
 pub one_status : (texts : Texts) (q : Request) (a b : Answer) → IsDue (Some texts) q a → IsDue (Some texts) q b → status_of a ≡ status_of b
@@ -145,8 +168,8 @@ one_status texts q (Refusal f a) (Refusal g b) (inl one) (inl two) = ap status_t
 one_status texts q (Refusal f a) (Refusal g b) (inl one) (inr two) = absurd (turn_not texts (inputs_of q) two.texts f a two.given one.0 one.1)
 one_status texts q (Refusal f a) (Refusal g b) (inr one) (inl two) = absurd (turn_not texts (inputs_of q) one.texts g b one.given two.0 two.1)
 one_status texts q (Refusal f a) (Refusal g b) (inr one) (inr two) =
-    first_once (taken_by q) (inputs_of q) two.texts f g a b
-    (subst (λ (ts : List (List ℕ)). IsFirstUnsound (taken_by q) (inputs_of q) ts f a) (texts_once texts (inputs_of q) one.texts two.texts one.given two.given) one.right)
+    refused_once q two.texts f g a b
+    (subst (λ (ts : List (List ℕ)). RightAnswer q ts (Refusal f a)) (texts_once texts (inputs_of q) one.texts two.texts one.given two.given) one.right)
     two.right
 
 -- ---- there is one
@@ -198,12 +221,20 @@ sound_or texts (Judge j) (source ∷ route ∷ []) given = elim (loads_or (taken
   ]
 ]
 
+-- on texts of all files a request is served, or a refusal is due
+served_on : (texts : Texts) (q : Request) (ts : List (List ℕ)) → AreTextsOf (Some texts) (inputs_of q) ts → AreSound (taken_by q) (inputs_of q) ts
+    → IsServed (Some texts) q ⊎ ((file : List ℕ) × (about : Told) × IsDue (Some texts) q (Refusal file about))
+served_on texts q ts given sound = elim (sayable_or q ts sound) [
+  | inl can ↦ inl (record { texts = ts; given = given; sound = sound; sayable = can })
+  | inr cannot ↦ inr (cannot.0, cannot.1, inr (record { texts = ts; given = given; right = inr cannot.2 }))
+]
+
 -- a request is served, or a refusal is due
 pub served_or : (texts : Texts) (q : Request) → IsServed (Some texts) q ⊎ ((file : List ℕ) × (about : Told) × IsDue (Some texts) q (Refusal file about))
 served_or texts q = elim (look_at texts (inputs_of q)) [
   | inr none ↦ inr (none.0, none.1, inl (none.2, none.3))
   | inl given ↦ elim (sound_or texts q given.0 given.1) [
-    | inl sound ↦ inl (record { texts = given.0; given = given.1; sound = sound })
-    | inr none ↦ inr (none.0, none.1, inr (record { texts = given.0; given = given.1; right = none.2 }))
+    | inl sound ↦ served_on texts q given.0 given.1 sound
+    | inr none ↦ inr (none.0, none.1, inr (record { texts = given.0; given = given.1; right = inl none.2 }))
   ]
 ]

@@ -3,7 +3,7 @@ use Rattle.std.proofs.Common.{◌≡◌, ◌⊎◌, inl, inr, refl, sym, subst, 
 use Rattle.std.specs.Prelude.{IfSome}
 use Rattle.policy_outside.specs.Texts.{Texts}
 use Rattle.policy_request.specs.Words.{Request, Accepts, IsRefused}
-use Rattle.policy_program.specs.Answer.{Told, CannotRead, IsTooLong, IsBroken, HasNoPolicy, IsOutside, SpellsNoRoute, Answer, Result, Refusal, status_of, status_told}
+use Rattle.policy_program.specs.Answer.{Told, CannotRead, IsTooLong, IsBroken, HasNoPolicy, IsOutside, IsInexpressible, SpellsNoRoute, Answer, Result, Refusal, status_of, status_told}
 use Rattle.policy_program.specs.Requests.{inputs_of, IsResult, IsAtTurn, IsDue}
 use Rattle.policy_program.specs.Ends.{Shelves, Sinks, Ends, by_words, by_fetch, refused, written, unwritten, by_memory}
 use Rattle.policy_program.specs.Run.{WritesResult, IsComplete, IsStatusFor, IsExact}
@@ -19,6 +19,7 @@ not_done IsTooLong e = cc
 not_done (IsBroken place kind) e = cc
 not_done (HasNoPolicy policy) e = cc
 not_done (IsOutside place cause) e = cc
+not_done (IsInexpressible place to kind) e = cc
 not_done (SpellsNoRoute line) e = cc
 
 not_usage : (about : Told) → status_told about ≡ Usage → ⊥
@@ -27,6 +28,7 @@ not_usage IsTooLong e = cc
 not_usage (IsBroken place kind) e = cc
 not_usage (HasNoPolicy policy) e = cc
 not_usage (IsOutside place cause) e = cc
+not_usage (IsInexpressible place to kind) e = cc
 not_usage (SpellsNoRoute line) e = cc
 
 -- two statuses that are not the same

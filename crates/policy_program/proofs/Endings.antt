@@ -8,8 +8,8 @@ use Rattle.policy_outside.specs.Counts.{Rose}
 use Rattle.policy_outside.specs.Texts.{Texts}
 use Rattle.policy_outside.specs.Shelf.{ShelfView, SameFaults, FaultRose}
 use Rattle.policy_outside.specs.Sink.{Puts}
-use Rattle.rpl_written.specs.Written.{is_new_name}
-use Rattle.policy_program.specs.Answer.{Told, CannotRead, IsTooLong, IsBroken, HasNoPolicy, IsOutside, SpellsNoRoute, Result, status_told, line_told}
+use Rattle.policy_request.specs.NewNames.{is_new_name}
+use Rattle.policy_program.specs.Answer.{Told, CannotRead, IsTooLong, IsBroken, HasNoPolicy, IsOutside, IsInexpressible, SpellsNoRoute, Result, status_told, line_told}
 use Rattle.policy_request.specs.Languages.{language_in}
 use Rattle.policy_request.specs.Words.{Verb, Translates, Judges, Request, TranslateParts, Translate, Judge, request_by, slots, app_of_verb, AreValues, Accepts}
 use Rattle.policy_program.specs.Requests.{Input, inputs_of, file_in, IsTextOf, HasNoText, AreTextsOf, IsAtTurn, IsDue}
@@ -40,6 +40,7 @@ missed before now file IsTooLong fails = inr fails
 missed before now file (IsBroken place kind) fails = absurd fails
 missed before now file (HasNoPolicy policy) fails = absurd fails
 missed before now file (IsOutside place cause) fails = absurd fails
+missed before now file (IsInexpressible place to kind) fails = absurd fails
 missed before now file (SpellsNoRoute line) fails = absurd fails
 
 -- a file at its turn was missed, or memory was short

@@ -5,9 +5,9 @@ use Rattle.route_types.specs.RouteText.{SpellsRoute, IsFirstBadLine}
 use Rattle.ios_reader.specs.Profile.{all_forms}
 use Rattle.policy_sources.specs.Source.{Policy, Loaded, Loads, source_in}
 use Rattle.policy_program.specs.Results.{IsJudgement}
-use Rattle.policy_program.specs.Answer.{SpellsNoRoute}
+use Rattle.policy_program.specs.Answer.{SpellsNoRoute, Refusal}
 use Rattle.policy_request.specs.Words.{JudgeParts, Judge}
-use Rattle.policy_program.specs.Requests.{IsFirstUnsound, inputs_of, judged_file}
+use Rattle.policy_program.specs.Requests.{RightAnswer, judged_file}
 use Rattle.policy_program.specs.Layers.{AnswersOn, RefusesUnsound, TellsOutcome}
 use Rattle.policy_request.specs.declared.language.Language.{Language}
 use Rattle.policy_program.specs.declared.refusal.Fault.{Fault}
@@ -18,9 +18,9 @@ pub judged : (language : Language) (source word route_text text : List ℕ) (pol
 judged language source word route_text text policy r loads spelled tells = record { policy = policy; loads = loads; route = r; spelled = spelled; is = tells }
 
 pub no_route : (j : JudgeParts) (source route_text : List ℕ) (policy : Policy) (line : ℕ) → Loads all_forms (source_in j.language j.policy source) (Loaded policy) → IsFirstBadLine route_text line
-    → IsFirstUnsound all_forms (inputs_of (Judge j)) (source ∷ route_text ∷ []) j.route_file (SpellsNoRoute line)
-no_route j source route_text policy line loads first = inr ((policy, loads), inl (refl, (line, refl, first)))
+    → RightAnswer (Judge j) (source ∷ route_text ∷ []) (Refusal j.route_file (SpellsNoRoute line))
+no_route j source route_text policy line loads first = inl (inr ((policy, loads), inl (refl, (line, refl, first))))
 
 pub unsound_first : (j : JudgeParts) (source route_text : List ℕ) (about : Fault) → RefusesUnsound all_forms (judged_file j) source about → AnswersOn (Judge j) (source ∷ route_text ∷ []) (Err about)
-unsound_first j source route_text (Refused r) refuses = inl refuses
+unsound_first j source route_text (Refused r) refuses = inl (inl refuses)
 unsound_first j source route_text Memory refuses = tt

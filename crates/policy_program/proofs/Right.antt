@@ -1,50 +1,69 @@
--- A text that writes a policy of a source is a right translation of it.
-use Rattle.std.proofs.Common.{◌≡◌, refl, ℕ, List, sym, ap, subst, ◌∙◌, Ok, Err}
-use Rattle.std.specs.Prelude.{Result, Vec, MatchResult}
+-- A text that says a policy of a source is a right translation of it, and what can't be said is told.
+use Rattle.std.proofs.Common.{◌≡◌, refl, ℕ, false, List, [], ◌∷◌, sym, ap, subst, Ok, Err}
+use Rattle.std.specs.Prelude.{Result, Vec}
 use Rattle.std.specs.declared.alloc.Global.{Global}
 use Rattle.ios_tree.specs.Tree.{ios_tree}
-use Rattle.ios_reader.specs.Profile.{PolicyParts}
-use Rattle.ios_meaning.specs.Meaning.{ios_meaning}
-use Rattle.rpl_written.specs.declared.item.RplForm.{RplForm}
-use Rattle.rpl_written.specs.Tree.{rpl_tree}
-use Rattle.rpl_written.specs.Profile as rpl
-use Rattle.rpl_written.specs.Meaning.{rpl_meaning}
-use Rattle.rpl_written.specs.Own.{TouchesItsOwn}
-use Rattle.rpl_written.proofs.ReadBack.{reads_as, touches_its_own}
-use Rattle.rpl_written.proofs.WrittenProfile.{in_profile}
-use Rattle.rpl_written.proofs.WrittenMeaning.{means_steps}
-use Rattle.policy_program.specs.FirstForms.{is_first_form}
-use Rattle.policy_sources.specs.Source.{PlainRpl, OfIos, OfPlainRpl, ios_source}
+use Rattle.ios_reader.specs.Profile.{PolicyParts, InProfile}
+use Rattle.ios_meaning.specs.Meaning.{name_of}
+use Rattle.ios_lower.specs.Continues.{has_continue}
+use Rattle.ios_lower.specs.OfPolicy.{PolicySays}
+use Rattle.policy_core.specs.Sayable.{rpl_atom, rpl_change}
+use Rattle.expressible_table.specs.Constructs.{map_constructs, constructs_of}
+use Rattle.expressible_table.specs.Missing.{AllGranted}
+use Rattle.expressible_table.specs.declared.kind.Dialect.TheVariants as dialect
+use Rattle.expressible_table.specs.declared.policy.Policy.{Policy}
+use Rattle.expressible_table.specs.declared.policy.Policy.TheVariants as listed
+use Rattle.granted_policies.proofs.Policies.{policy_says}
+use Rattle.policy_sources.specs.Source.{OfIos, OfRpl}
 use Rattle.policy_sources.specs.Loading.{IsLoaded}
-use Rattle.policy_program.specs.Results.{IsTranslation}
+use Rattle.policy_program.specs.StraightForms.{is_straight}
 use Rattle.policy_program.specs.Layers.{TranslatesTo}
-use Rattle.policy_program.specs.Written.{Writes}
-use Rattle.policy_sources.specs.declared.loads.LoadFault.{LoadFault}
-use Rattle.policy_sources.specs.declared.loads.LoadFault.TheVariants.{Memory}
+use Rattle.policy_program.specs.Written.{IsStraight, WritesPolicy, parts_of}
+use Rattle.policy_program.specs.declared.translation.TranslateFault.{TranslateFault}
+use Rattle.policy_program.specs.declared.translation.TranslateFault.TheVariants.{Broken, NoPolicy, Outside, Inexpressible, Memory}
+use Rattle.policy_program.proofs.Straight.{none_continues}
 
-is_right : (source policy target name : List ℕ) (checked : PolicyParts) → IsLoaded is_first_form source policy checked → Writes checked.items policy target name → IsTranslation (ios_source policy source) PlainRpl name target
-is_right source policy target name checked loaded written =
-    let again = reads_as name written.sets written.steps written.writable in
-    record {
-      policy = OfIos (ios_tree source) policy;
-      loads = loaded.loads;
-      written = OfPlainRpl again.0 name;
-      reads = (
-        again.0,
-        ap rpl_tree written.layout ∙ again.1,
-        subst (rpl.InProfile name) (sym again.2) (in_profile name written.sets written.steps written.writable),
-        refl,
-      );
-      same = λ r in_range.
-          ap (λ (fs : List RplForm). rpl_meaning fs name r) again.2
-          ∙ means_steps name written.sets written.steps written.writable r
-          ∙ written.same r
-          ∙ ap (λ (c : PolicyParts). ios_meaning c.items policy r) loaded.is;
-      own = subst (TouchesItsOwn name) (sym written.layout) (touches_its_own name written.sets written.steps written.writable);
-    }
+-- a route-map that is loaded has no `continue` line
+pub loaded_straight : (source policy : List ℕ) (checked : PolicyParts) → IsLoaded is_straight source policy checked → IsStraight checked
+loaded_straight source policy checked loaded = record {
+  text = source;
+  read = ap (λ (c : PolicyParts). c.items) loaded.is;
+  checked = record {
+    name = policy;
+    one = ap (λ (c : PolicyParts). c.names) loaded.is;
+    in_profile = subst (λ (c : PolicyParts). InProfile policy c.items) (sym loaded.is) loaded.loads.1;
+  };
+  straight = subst (λ (c : PolicyParts). has_continue c.items (name_of c) ≡ false) (sym loaded.is) (none_continues policy (ios_tree source) loaded.loads.2);
+}
 
--- what was written, or want of memory, answers for the source
-pub answers : (source policy name : List ℕ) (checked : PolicyParts) (answer : Result (Vec ℕ Global) LoadFault) → IsLoaded is_first_form source policy checked
-    → MatchResult answer (λ text. Writes checked.items policy text.items name) (λ fault. fault ≡ Memory) → TranslatesTo source policy name answer
-answers source policy name checked (Ok text) loaded written = is_right source policy text.items name checked loaded written
-answers source policy name checked (Err fault) loaded short = subst (λ (f : LoadFault). TranslatesTo source policy name (Err f)) (sym short) tt
+-- what the table grants RPL can say
+pub granted_says : (policy : Policy) → IsStraight (parts_of policy) → AllGranted dialect.Rpl (constructs_of policy) → PolicySays rpl_atom rpl_change (parts_of policy).items (name_of (parts_of policy))
+granted_says (listed.Ios checked) straight granted = policy_says dialect.Rpl straight.text checked (record { read = straight.read; checked = straight.checked; granted = granted })
+
+-- what was written, or told of a policy that is loaded, answers for the source
+answers_loaded : (source policy name : List ℕ) (answer : Result (Vec ℕ Global) TranslateFault)
+    → IsLoaded is_straight source policy (record { items = ios_tree source; names = policy ∷ [] })
+    → WritesPolicy (listed.Ios (record { items = ios_tree source; names = policy ∷ [] })) name answer → TranslatesTo source policy name answer
+unfolding constructs_of
+answers_loaded source policy name (Ok text) loaded written = record {
+  policy = OfIos (ios_tree source) policy;
+  loads = loaded.loads;
+  granted = record { constructs = map_constructs policy (ios_tree source); are = refl; granted = written.0 };
+  written = OfRpl written.1.written name;
+  reads = (written.1.written, written.1.tree, (refl, written.1.profile));
+  same = written.1.same;
+  own = written.1.own;
+}
+answers_loaded source policy name (Err (Inexpressible span kind)) loaded missing =
+    (OfIos (ios_tree source) policy, loaded.loads, record { constructs = map_constructs policy (ios_tree source); are = refl; first = missing })
+answers_loaded source policy name (Err Memory) loaded short = tt
+answers_loaded source policy name (Err (Broken span kind)) loaded never = absurd never
+answers_loaded source policy name (Err (NoPolicy place)) loaded never = absurd never
+answers_loaded source policy name (Err (Outside span cause)) loaded never = absurd never
+
+pub answers : (source policy name : List ℕ) (checked : PolicyParts) (answer : Result (Vec ℕ Global) TranslateFault) → IsLoaded is_straight source policy checked
+    → WritesPolicy (listed.Ios checked) name answer → TranslatesTo source policy name answer
+answers source policy name checked answer loaded written =
+    answers_loaded source policy name answer
+    (subst (IsLoaded is_straight source policy) loaded.is loaded)
+    (subst (λ (c : PolicyParts). WritesPolicy (listed.Ios c) name answer) loaded.is written)

@@ -5,10 +5,11 @@ use Rattle.std.specs.Fmt.{digits}
 use Rattle.route_types.specs.declared.route.Outcome.TheVariants.{Reject}
 use Rattle.policy_text.specs.declared.fault.Cause.TheVariants.{UnknownForm}
 use Rattle.text_words.specs.declared.fault.BrokenKind.TheVariants.{NoEnder}
-use Rattle.policy_request.specs.declared.language.Language.TheVariants.{Ios}
+use Rattle.expressible_table.specs.declared.kind.Kind.TheVariants.{ExactMatch}
+use Rattle.policy_request.specs.declared.language.Language.TheVariants.{Ios, Rpl}
 use Rattle.policy_request.specs.Words.{Request, Judge}
 use Rattle.policy_program.specs.Lines.{column_behind, place_in}
-use Rattle.policy_program.specs.Answer.{CannotRead, IsBroken, HasNoPolicy, IsOutside, SpellsNoRoute, Refusal, line_told}
+use Rattle.policy_program.specs.Answer.{CannotRead, IsBroken, HasNoPolicy, IsOutside, IsInexpressible, SpellsNoRoute, Refusal, line_told}
 use Rattle.policy_program.specs.Results.{outcome_text}
 use Rattle.policy_program.specs.Requests.{IsDue}
 
@@ -31,6 +32,10 @@ second_line = refl
 broken_line : line_told (codes "e.cfg") (IsBroken (place_in text 5) NoEnder) ≡ codes "e.cfg:2:3: broken: no-ender" ++ (10 ∷ [])
 unfolding column_behind digits
 broken_line = refl
+
+inexpressible_line : line_told (codes "e.cfg") (IsInexpressible (place_in text 5) Rpl ExactMatch) ≡ codes "e.cfg:2:3: inexpressible in rpl: exact-match" ++ (10 ∷ [])
+unfolding column_behind digits
+inexpressible_line = refl
 
 not_defined : line_told (codes "e.cfg") (HasNoPolicy (codes "M")) ≡ codes "e.cfg: no policy M" ++ (10 ∷ [])
 not_defined = refl

@@ -3,7 +3,7 @@ use Rattle.std.proofs.Common.{◌≡◌, ◌⊎◌, inl, inr, refl, ap, ℕ, Lis
 use Rattle.std.specs.Prelude.{slice_get, unwrap_or}
 use Rattle.policy_request.specs.Languages.{names_in}
 use Rattle.policy_request.specs.declared.language.Language.{Language}
-use Rattle.policy_sources.specs.Source.{Taken, Dialect, dialect_of, Source, Load, Loaded, Broken, NoPolicy, Outside, LoadsIn, AreAlike}
+use Rattle.policy_sources.specs.Source.{Taken, Source, Load, Loaded, Broken, NoPolicy, Outside, LoadsIn, AreAlike}
 use Rattle.policy_sources.proofs.LoadsOnce.{loads_alike, some_load}
 use Rattle.policy_program.specs.Lines.{place_in}
 use Rattle.policy_program.specs.Answer.{Told, IsBroken, HasNoPolicy, IsOutside}
@@ -28,22 +28,22 @@ told_alike source (Outside span cause) (Broken other kind) same = absurd same
 told_alike source (Outside span cause) (NoPolicy place) same = absurd same
 
 -- what comes of a source is told in one way
-pub told_once : (taken : Taken) (dialect : Dialect) (names : List (List ℕ)) (text : List ℕ) (a b : Load) → LoadsIn dialect taken names text a → LoadsIn dialect taken names text b
-    → told_by (record { dialect = dialect; names = names; text = text }) a ≡ told_by (record { dialect = dialect; names = names; text = text }) b
-told_once taken dialect names text a b x y = told_alike (record { dialect = dialect; names = names; text = text }) a b (loads_alike taken dialect names text a b x y)
+pub told_once : (taken : Taken) (language : Language) (names : List (List ℕ)) (text : List ℕ) (a b : Load) → LoadsIn language taken names text a → LoadsIn language taken names text b
+    → told_by (record { language = language; names = names; text = text }) a ≡ told_by (record { language = language; names = names; text = text }) b
+told_once taken language names text a b x y = told_alike (record { language = language; names = names; text = text }) a b (loads_alike taken language names text a b x y)
 
 -- a file with policies of these names is as it has to be, or something is told of it
-abbrev SoundOr : Taken → List ℕ → Dialect → List (List ℕ) → List ℕ → Type 0
-SoundOr taken file dialect names text = IsSound taken (PolicyFile file dialect names) text ⊎ ((about : Told) × IsUnsound taken (PolicyFile file dialect names) text about)
+abbrev SoundOr : Taken → List ℕ → Language → List (List ℕ) → List ℕ → Type 0
+SoundOr taken file language names text = IsSound taken (PolicyFile file language names) text ⊎ ((about : Told) × IsUnsound taken (PolicyFile file language names) text about)
 
-sound_by : (taken : Taken) (file : List ℕ) (dialect : Dialect) (names : List (List ℕ)) (text : List ℕ) (load : Load) → LoadsIn dialect taken names text load → SoundOr taken file dialect names text
-sound_by taken file dialect names text (Loaded policy) loads = inl (policy, loads)
-sound_by taken file dialect names text (Broken span kind) loads = inr (IsBroken (place_in text span.start) kind, (Broken span kind, loads, refl))
-sound_by taken file dialect names text (NoPolicy place) loads = inr (HasNoPolicy (unwrap_or (slice_get names place) []), (NoPolicy place, loads, refl))
-sound_by taken file dialect names text (Outside span cause) loads = inr (IsOutside (place_in text span.start) cause, (Outside span cause, loads, refl))
+sound_by : (taken : Taken) (file : List ℕ) (language : Language) (names : List (List ℕ)) (text : List ℕ) (load : Load) → LoadsIn language taken names text load → SoundOr taken file language names text
+sound_by taken file language names text (Loaded policy) loads = inl (policy, loads)
+sound_by taken file language names text (Broken span kind) loads = inr (IsBroken (place_in text span.start) kind, (Broken span kind, loads, refl))
+sound_by taken file language names text (NoPolicy place) loads = inr (HasNoPolicy (unwrap_or (slice_get names place) []), (NoPolicy place, loads, refl))
+sound_by taken file language names text (Outside span cause) loads = inr (IsOutside (place_in text span.start) cause, (Outside span cause, loads, refl))
 
 -- what a policy word names in a text loads, or something is told of it
-pub loads_or : (taken : Taken) (file : List ℕ) (language : Language) (word text : List ℕ) → SoundOr taken file (dialect_of language) (names_in language word) text
+pub loads_or : (taken : Taken) (file : List ℕ) (language : Language) (word text : List ℕ) → SoundOr taken file language (names_in language word) text
 loads_or taken file language word text =
     let found = some_load taken language word text in
-    sound_by taken file (dialect_of language) (names_in language word) text found.0 found.1
+    sound_by taken file language (names_in language word) text found.0 found.1

@@ -5,6 +5,10 @@ use Rattle.text_words.specs.declared.fault.BrokenKind.{BrokenKind}
 use Rattle.text_words.specs.declared.fault.BrokenKind.TheVariants.{OpenQuote, OpenComment, OpenBrace, StrayBrace, NoEnder, Misplaced, Unended}
 use Rattle.policy_text.specs.declared.fault.Cause.{Cause}
 use Rattle.policy_text.specs.CauseNames.{cause_name}
+use Rattle.expressible_table.specs.KindNames.{kind_name as construct_name}
+use Rattle.expressible_table.specs.declared.kind.Kind.{Kind}
+use Rattle.policy_request.specs.declared.language.Language.{Language}
+use Rattle.policy_request.specs.declared.language.Language.TheVariants.{Ios, Junos, Rpl}
 use Rattle.policy_program.specs.declared.place.Place.{Place}
 use Rattle.policy_program.specs.declared.status.Status.{Status}
 use Rattle.policy_program.specs.declared.status.Status.TheVariants.{Done, Same, Differ, Usage, Broken, NoPolicy, Outside, Inexpressible, FetchFailed, TooLong, WriteFailed, Memory, RouteRefused}
@@ -34,6 +38,8 @@ pub data Told : Type 0 where
   -- it has no policy of this name
   HasNoPolicy : List ℕ → Told
   IsOutside : Place → Cause → Told
+  -- the language can't say its policy; the place and the kind of the first construct that can't be said
+  IsInexpressible : Place → Language → Kind → Told
   -- it spells no route; the number of its first line that is not the form
   SpellsNoRoute : ℕ → Told
 
@@ -49,6 +55,7 @@ status_told IsTooLong = TooLong
 status_told (IsBroken place kind) = Broken
 status_told (HasNoPolicy policy) = NoPolicy
 status_told (IsOutside place cause) = Outside
+status_told (IsInexpressible place to kind) = Inexpressible
 status_told (SpellsNoRoute line) = RouteRefused
 
 -- the name of a kind of breaks as it is printed
@@ -61,7 +68,13 @@ kind_name NoEnder = codes "no-ender"
 kind_name Misplaced = codes "misplaced"
 kind_name Unended = codes "unended"
 
--- the line of a fault at a place of the file
+-- what stands before the kind of a construct that the language can't say
+abbrev pub missing_in : Language → List ℕ
+missing_in Ios = codes ": inexpressible in ios: "
+missing_in Junos = codes ": inexpressible in junos: "
+missing_in Rpl = codes ": inexpressible in rpl: "
+
+-- the line of what is told of a place of the file
 abbrev pub place_line : List ℕ → Place → List ℕ → List ℕ → List ℕ
 place_line file place sort name = joined (file ∷ codes ":" ∷ decimal place.line ∷ codes ":" ∷ decimal place.column ∷ sort ∷ name ∷ codes "\n" ∷ [])
 
@@ -72,6 +85,7 @@ line_told file IsTooLong = joined (file ∷ codes ": longer than 16777216 bytes\
 line_told file (IsBroken place kind) = place_line file place (codes ": broken: ") (kind_name kind)
 line_told file (HasNoPolicy policy) = joined (file ∷ codes ": no policy " ∷ policy ∷ codes "\n" ∷ [])
 line_told file (IsOutside place cause) = place_line file place (codes ": outside: ") (cause_name cause)
+line_told file (IsInexpressible place to kind) = place_line file place (missing_in to) (construct_name kind)
 line_told file (SpellsNoRoute line) = joined (file ∷ codes ":" ∷ decimal line ∷ codes ": not a route\n" ∷ [])
 
 -- the status of an answer

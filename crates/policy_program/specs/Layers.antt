@@ -6,13 +6,15 @@ use Rattle.policy_outside.specs.declared.faults.PutFault.TheVariants.{Failed, Me
 use Rattle.policy_outside.specs.Shelf.{ShelfView, SameFaults, FaultRose}
 use Rattle.policy_outside.specs.Sink.{Puts}
 use Rattle.route_types.specs.Route.{RouteParts}
-use Rattle.rpl_written.specs.Written.{is_new_name}
-use Rattle.policy_sources.specs.Source.{Taken, PlainRpl, Policy, meaning, ios_source}
-use Rattle.policy_sources.specs.Loading.{FailsToLoad}
-use Rattle.policy_program.specs.FirstForms.{is_first_form}
+use Rattle.policy_request.specs.NewNames.{is_new_name}
+use Rattle.policy_request.specs.declared.language.Language.{Language}
+use Rattle.policy_request.specs.declared.language.Language.TheVariants.{Rpl}
+use Rattle.policy_sources.specs.Source.{Taken, Source, Policy, Loaded, Broken, NoPolicy, Outside, Loads, meaning, ios_source}
+use Rattle.policy_program.specs.StraightForms.{is_straight}
+use Rattle.policy_program.specs.Expressible.{LacksFirst}
 use Rattle.policy_program.specs.Results.{IsTranslation, outcome_text}
 use Rattle.policy_program.specs.Lines.{place_in}
-use Rattle.policy_program.specs.Answer.{Told, CannotRead, IsTooLong, IsBroken, HasNoPolicy, IsOutside, SpellsNoRoute, Result, Refusal, status_told, line_told, unwritten_line, memory_line}
+use Rattle.policy_program.specs.Answer.{Told, CannotRead, IsTooLong, IsBroken, HasNoPolicy, IsOutside, IsInexpressible, SpellsNoRoute, Result, Refusal, status_told, line_told, unwritten_line, memory_line}
 use Rattle.policy_request.specs.Words.{Request, Translate, Judge}
 use Rattle.policy_program.specs.Requests.{Input, inputs_of, file_in, IsUnsound, RightAnswer, IsTextOf, HasNoText}
 use Rattle.policy_program.specs.Ends.{Shelves, Sinks, ReceivedNothing, ReceivedLine, Tells}
@@ -23,6 +25,8 @@ use Rattle.policy_program.specs.declared.refusal.Fault.TheVariants.{Refused, Mem
 use Rattle.policy_program.specs.declared.refusal.Told.{Told as ToldOf}
 use Rattle.policy_program.specs.declared.refusal.Told.TheVariants as told
 use Rattle.policy_program.specs.declared.request.Output.{Output}
+use Rattle.policy_program.specs.declared.translation.TranslateFault.{TranslateFault}
+use Rattle.policy_program.specs.declared.translation.TranslateFault.TheVariants as untranslated
 use Rattle.policy_program.specs.declared.status.Status.{Status}
 use Rattle.policy_program.specs.declared.status.Status.TheVariants.{WriteFailed, Memory as OutOfMemory}
 
@@ -33,14 +37,31 @@ told_of told.IsTooLong = IsTooLong
 told_of (told.IsBroken place kind) = IsBroken place kind
 told_of (told.HasNoPolicy policy) = HasNoPolicy policy.now
 told_of (told.IsOutside place cause) = IsOutside place cause
+told_of (told.IsInexpressible place to kind) = IsInexpressible place to kind
 told_of (told.SpellsNoRoute line) = SpellsNoRoute line
 
 -- ---- refusing
 
+-- why a policy of a source is not translated into a language: it does not load, or this is the first construct that the
+-- language can't say
+abbrev pub FailsToTranslate : Source → Language → TranslateFault → Type 0
+FailsToTranslate source to (untranslated.Broken span kind) = Loads is_straight source (Broken span kind)
+FailsToTranslate source to (untranslated.NoPolicy place) = Loads is_straight source (NoPolicy place)
+FailsToTranslate source to (untranslated.Outside span cause) = Loads is_straight source (Outside span cause)
+FailsToTranslate source to (untranslated.Inexpressible span kind) = (p : Policy) × Loads is_straight source (Loaded p) × LacksFirst p to (record { kind = kind; span = span })
+FailsToTranslate source to untranslated.Memory = Unit {0}
+
 -- what translation from IOS to RPL answers
-abbrev pub TranslatesTo : List ℕ → List ℕ → List ℕ → Outcome (Vec ℕ Global) LoadFault → Type 0
-TranslatesTo text policy name (Ok written) = IsTranslation (ios_source policy text) PlainRpl name written.items
-TranslatesTo text policy name (Err fault) = FailsToLoad is_first_form (ios_source policy text) fault
+abbrev pub TranslatesTo : List ℕ → List ℕ → List ℕ → Outcome (Vec ℕ Global) TranslateFault → Type 0
+TranslatesTo text policy name (Ok written) = IsTranslation (ios_source policy text) Rpl name written.items
+TranslatesTo text policy name (Err fault) = FailsToTranslate (ios_source policy text) Rpl fault
+
+-- the fault of a translation that a fault of a load is
+abbrev pub fault_of_load : LoadFault → TranslateFault
+fault_of_load (unloaded.Broken span kind) = untranslated.Broken span kind
+fault_of_load (unloaded.NoPolicy place) = untranslated.NoPolicy place
+fault_of_load (unloaded.Outside span cause) = untranslated.Outside span cause
+fault_of_load unloaded.Memory = untranslated.Memory
 
 -- the fault refuses the file, and tells this of it
 abbrev pub Refuses : Fault → List ℕ → Told → Type 0
@@ -53,6 +74,14 @@ TellsLoad file names text (unloaded.Broken span kind) about = Refuses about file
 TellsLoad file names text (unloaded.NoPolicy place) about = Refuses about file (HasNoPolicy (unwrap_or (slice_get names place) []))
 TellsLoad file names text (unloaded.Outside span cause) about = Refuses about file (IsOutside (place_in text span.start) cause)
 TellsLoad file names text unloaded.Memory about = about ≡ Memory
+
+-- the same of a translation into a language
+abbrev pub TellsTranslation : List ℕ → List (List ℕ) → List ℕ → Language → TranslateFault → Fault → Type 0
+TellsTranslation file names text to (untranslated.Inexpressible span kind) about = Refuses about file (IsInexpressible (place_in text span.start) to kind)
+TellsTranslation file names text to (untranslated.Broken span kind) about = TellsLoad file names text (unloaded.Broken span kind) about
+TellsTranslation file names text to (untranslated.NoPolicy place) about = TellsLoad file names text (unloaded.NoPolicy place) about
+TellsTranslation file names text to (untranslated.Outside span cause) about = TellsLoad file names text (unloaded.Outside span cause) about
+TellsTranslation file names text to untranslated.Memory about = TellsLoad file names text unloaded.Memory about
 
 -- the fault refuses a file of this text, which is not as it has to be, or it is want of memory
 abbrev pub RefusesUnsound : Taken → Input → List ℕ → Fault → Type 0

@@ -1,4 +1,5 @@
-pub mod FirstForms
+pub mod StraightForms
+pub mod Expressible
 pub mod Results
 pub mod Lines
 pub mod Answer
@@ -6,8 +7,4 @@ pub mod Requests
 pub mod Ends
 pub mod Run
 pub mod Layers
-pub mod Plan
-pub mod Steps
-pub mod Sets
-pub mod Planned
 pub mod Written

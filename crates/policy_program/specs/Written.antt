@@ -1,16 +1,47 @@
--- What is written of a policy: a text of sets and steps that mean what the policy means.
-use Rattle.std.specs.Prelude.{◌≡◌, ℕ, List}
-use Rattle.prefix_sets.specs.Range.{RangeParts}
-use Rattle.route_types.specs.Route.{RouteParts}
-use Rattle.ios_tree.specs.declared.item.IosItem.{IosItem}
-use Rattle.ios_meaning.specs.Meaning.{ios_meaning}
-use Rattle.rpl_written.specs.Layout.{Step, policy_text}
-use Rattle.rpl_written.specs.Written.{IsWritable, steps_outcome}
+-- What is written of a checked route-map: a text that says what it does, or the first construct that can't be said.
+use Rattle.std.specs.Prelude.{◌≡◌, ℕ, false, List, Some, Ok, Err, Result, Vec}
+use Rattle.std.specs.declared.alloc.Global.{Global}
+use Rattle.route_types.specs.Route.{RouteParts, InRange}
+use Rattle.ios_tree.specs.Tree.{ios_tree}
+use Rattle.ios_reader.specs.Profile.{PolicyParts, IsPolicyOf}
+use Rattle.ios_meaning.specs.Meaning.{ios_meaning, name_of}
+use Rattle.ios_lower.specs.Continues.{has_continue}
+use Rattle.expressible_table.specs.Constructs.{constructs_of}
+use Rattle.expressible_table.specs.Missing.{AllGranted, IsFirstMissing}
+use Rattle.expressible_table.specs.declared.kind.Dialect.TheVariants.{Rpl}
+use Rattle.expressible_table.specs.declared.policy.Policy.{Policy}
+use Rattle.expressible_table.specs.declared.policy.Policy.TheVariants.{Ios}
+use Rattle.rpl_forms.specs.declared.item.RplItem.{RplItem}
+use Rattle.rpl_tree.specs.Tree.{forms, rpl_tree}
+use Rattle.rpl_reader.specs.Profile.{InProfile}
+use Rattle.rpl_meaning.specs.Meaning.{rpl_meaning}
+use Rattle.rpl_printer.specs.Own.{TouchesItsOwn}
+use Rattle.policy_program.specs.declared.translation.TranslateFault.{TranslateFault}
+use Rattle.policy_program.specs.declared.translation.TranslateFault.TheVariants.{Inexpressible, Memory}
 
--- the text is that of sets and steps that can be written under the name and give every route the policy's outcome
-pub record Writes (items : List IosItem) (policy text name : List ℕ) : Type 0 where
-  pub sets : List (List RangeParts)
-  pub steps : List Step
-  pub writable : IsWritable name sets steps
-  pub layout : text ≡ policy_text name sets steps
-  pub same : (r : RouteParts) → steps_outcome sets r steps ≡ ios_meaning items policy r
+-- a checked route-map of a text that has no `continue` line
+pub record IsStraight (policy : PolicyParts) : Type 0 where
+  pub text : List ℕ
+  pub read : policy.items ≡ ios_tree text
+  pub checked : IsPolicyOf policy.items policy.names
+  pub straight : has_continue policy.items (name_of policy) ≡ false
+
+-- what the table lists as a policy, as its reader gave it
+abbrev pub parts_of : Policy → PolicyParts
+parts_of (Ios policy) = policy
+
+-- the text reads in RPL as a tree in which the name is in profile, gives every route in range what the checked route-map does,
+-- and touches nothing of others
+pub record Says (policy : PolicyParts) (name text : List ℕ) : Type 0 where
+  pub written : List RplItem
+  pub tree : rpl_tree text ≡ Some written
+  pub profile : InProfile name written
+  pub same : (r : RouteParts) → InRange r → rpl_meaning (forms written) name r ≡ ios_meaning policy.items (name_of policy) r
+  pub own : TouchesItsOwn name text
+
+-- what comes of writing a policy under a name
+abbrev pub WritesPolicy : Policy → List ℕ → Result (Vec ℕ Global) TranslateFault → Type 0
+WritesPolicy policy name (Ok text) = AllGranted Rpl (constructs_of policy) × Says (parts_of policy) name text.items
+WritesPolicy policy name (Err (Inexpressible span kind)) = IsFirstMissing Rpl (constructs_of policy) (record { kind = kind; span = span })
+WritesPolicy policy name (Err Memory) = Unit {0}
+WritesPolicy policy name (Err _) = ⊥

@@ -1,26 +1,23 @@
 //! What the command-line program does: `translate` writes a route-map of an IOS source as a policy in RPL, and
 //! `judge` tells what a policy makes of a route: a route-map of IOS, a chain of Junos policies or a route-policy of RPL.
 //! It stands on `policy_request`, which reads the words, and on `policy_sources`, which loads and judges policies of all
-//! languages; it gives the public items of both on.
+//! languages; it gives the public items of both on. For a translation it also stands on `expressible_table`, `ios_lower`,
+//! `policy_core` and `rpl_printer`.
 //! From the outside in: `run` and its layers (top_call, request), the lines on standard error (lines, place), the verbs
-//! (translation, judge, and what both tell of a file: refusal), and how a translation is made (plan, sets, rpl_text, write).
+//! (translation, judge), and what both tell of a file (refusal).
 //! Its definitions are in `specs/`: `Run` and `Ends` say what `run` does, `Requests` what is right for a request.
 #![tactic(auto)]
 
 mod answer_laws;
-mod first_forms;
 mod judge;
 mod lines;
 mod place;
-mod plan;
 mod refusal;
 mod request;
-mod rpl_text;
-mod sets;
 mod status;
+mod straight_forms;
 mod top_call;
 mod translation;
-mod write;
 
 pub use answer_laws::one_status_is_due;
 pub use lines::tell_memory;
@@ -35,4 +32,4 @@ pub use policy_sources::{
 pub use policy_text::cause_name;
 pub use status::Status;
 pub use top_call::run;
-pub use translation::translate;
+pub use translation::{TranslateFault, translate};

@@ -1,12 +1,14 @@
 // The one line that a refusal puts on `err`, in pieces that take no memory.
 ghost use Rattle.std.specs.Prelude.{◌≡◌, [], ◌∷◌, codes, map};
 ghost use Rattle.policy_outside.specs.Sink.{joined};
-ghost use Rattle.policy_program.specs.Answer.{CannotRead, HasNoPolicy, IsBroken, IsOutside, IsTooLong, SpellsNoRoute, kind_name, line_told, memory_line, place_line, unwritten_line, usage_line};
+ghost use Rattle.policy_program.specs.Answer.{CannotRead, HasNoPolicy, IsBroken, IsInexpressible, IsOutside, IsTooLong, SpellsNoRoute, kind_name, line_told, memory_line, missing_in, place_line, unwritten_line, usage_line};
 ghost use Rattle.policy_program.specs.Ends.{ReceivedLine};
 
 use crate::place::Place;
+use expressible_table::{Kind, kind_name as construct_name};
 use itoa::Buffer;
 use policy_outside::{Sink, put_line};
+use policy_request::Language;
 use policy_text::{BrokenKind, Cause, cause_name};
 
 /// Puts a line, whatever the sink does with it.
@@ -59,6 +61,30 @@ pub(crate) fn tell_outside<E: Sink>(err: &mut E, file: &str, place: Place, cause
     ensures { ReceivedLine (record { before = E.seen err.old; now = E.seen err.new }) (line_told file.now (IsOutside place cause)) }
 {
     tell_fault(err, file, place, b": outside: ", cause_name(cause));
+}
+
+/// What stands before the kind of a construct that the language can't say.
+fn missing_in(target: Language) -> &'static [u8]
+    ensures { result.now ≡ missing_in target }
+{
+    match target {
+        Language::Ios => b": inexpressible in ios: ",
+        Language::Junos => b": inexpressible in junos: ",
+        Language::Rpl => b": inexpressible in rpl: ",
+    }
+}
+
+/// Tells the first construct of a policy that the target can't say, at its place in the file.
+pub(crate) fn tell_inexpressible<E: Sink>(
+    err: &mut E,
+    file: &str,
+    place: Place,
+    target: Language,
+    kind: Kind,
+)
+    ensures { ReceivedLine (record { before = E.seen err.old; now = E.seen err.new }) (line_told file.now (IsInexpressible place target kind)) }
+{
+    tell_fault(err, file, place, missing_in(target), construct_name(kind));
 }
 
 /// Tells a fault of this sort and name at a place of the file.

@@ -1,6 +1,6 @@
 // The answer to a request: its files are fetched one by one, and then it is answered on their texts.
 ghost use Rattle.std.specs.Prelude.{◌≡◌, [], ◌∷◌, true};
-ghost use Rattle.rpl_written.specs.Written.{is_new_name};
+ghost use Rattle.policy_request.specs.NewNames.{is_new_name};
 ghost use Rattle.policy_request.specs.Words.{Translate, Judge, translate_view, judge_view, request_view};
 ghost use Rattle.policy_program.specs.Requests.{RouteFile, inputs_of};
 ghost use Rattle.policy_program.specs.Layers.{AnswersOn, IsWellNamed, FetchesText, FetchesAll};

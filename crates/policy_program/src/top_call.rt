@@ -8,8 +8,8 @@ ghost use Rattle.policy_program.specs.Run.{WritesResult, IsComplete, IsExact};
 ghost use Rattle.policy_program.specs.Layers.{AnswersRequest, IsWellNamed, Writes, told_of};
 
 use crate::lines::{
-    tell_broken, tell_memory, tell_no_policy, tell_not_route, tell_outside, tell_too_long,
-    tell_unread, tell_unwritten, tell_usage,
+    tell_broken, tell_inexpressible, tell_memory, tell_no_policy, tell_not_route, tell_outside,
+    tell_too_long, tell_unread, tell_unwritten, tell_usage,
 };
 use crate::refusal::{Fault, Refusal, Told};
 use crate::request::{Output, answer};
@@ -130,6 +130,14 @@ fn refuse<E: Sink>(refusal: &Refusal<'_>, err: &mut E) -> Status
         Told::IsOutside { place, cause } => {
             tell_outside(err, refusal.file, place, cause);
             Status::Outside
+        }
+        Told::IsInexpressible {
+            place,
+            target,
+            kind,
+        } => {
+            tell_inexpressible(err, refusal.file, place, target, kind);
+            Status::Inexpressible
         }
         Told::SpellsNoRoute { line } => {
             tell_not_route(err, refusal.file, line);

@@ -1,61 +1,105 @@
 // Translation of one policy from IOS to RPL.
-ghost use Rattle.std.specs.Prelude.{◌≡◌, [], ◌∷◌, true, None, MatchResult};
-ghost use Rattle.std.specs.List.{AllByRecursion};
-ghost use Rattle.ios_reader.specs.Profile.{first_fault_within};
-ghost use Rattle.rpl_written.specs.Written.{is_new_name};
-ghost use Rattle.policy_program.specs.FirstForms.{is_first_form};
-ghost use Rattle.policy_program.specs.Plan.{HasPlainForm};
-ghost use Rattle.policy_program.specs.Written.{Writes};
+ghost use Rattle.std.specs.Prelude.{◌≡◌, [], ◌∷◌, false, true, IfOk};
+ghost use Rattle.ios_meaning.specs.Meaning.{name_of};
+ghost use Rattle.ios_lower.specs.Continues.{has_continue};
+ghost use Rattle.ios_lower.specs.OfPolicy.{PolicySays};
+ghost use Rattle.policy_core.specs.Sayable.{rpl_atom, rpl_change};
+ghost use Rattle.rpl_text.specs.Written.{HeadsBlock};
+ghost use Rattle.policy_request.specs.NewNames.{is_new_name};
 ghost use Rattle.policy_request.specs.Words.{Translate, translate_view};
-ghost use Rattle.policy_program.specs.Layers.{AnswersOn, TranslatesTo};
+ghost use Rattle.policy_program.specs.Written.{IsStraight, Says, WritesPolicy, parts_of};
+ghost use Rattle.policy_program.specs.Layers.{AnswersOn, TranslatesTo, fault_of_load};
 
-use crate::first_forms::FirstForms;
-use crate::refusal::{Fault, refused_load};
+use crate::refusal::{Fault, refused_translation};
 use crate::request::Output;
 use crate::status::Status;
-use crate::write::write_policy;
-use ios_reader::CheckedIos;
+use crate::straight_forms::StraightForms;
+use expressible_table::{Dialect, Kind, Policy, first_missing};
+use ios_lower::lower_ios;
+use policy_core::steps;
 use policy_request::TranslateWords;
 use policy_sources::{LoadFault, load_ios};
+use policy_text::{BrokenKind, Cause, Span};
+use route_types::Memory;
+use rpl_printer::print_rpl_policy;
 use std::alloc::Global;
 
-/// The text that says in RPL, under `name`, what a checked policy says.
-fn written_policy(
-    alloc: Global,
-    checked: &CheckedIos,
-    policy: &[u8],
-    name: &[u8],
-) -> Result<Vec<u8>, LoadFault>
-    requires taken { first_fault_within is_first_form policy.now checked.now.items ≡ None }
-    requires plain { AllByRecursion HasPlainForm checked.now.items }
-    requires named { is_new_name name.now ≡ true }
-    ensures { MatchResult result (λ text. Writes checked.now.items policy.now text.items name.now) (λ fault. fault ≡ LoadFault.Memory) }
+/// Why a policy is not translated.
+#[derive(Clone, Copy, Debug, PartialEq, Eq)]
+pub enum TranslateFault {
+    /// The source is broken here, so that it has no tree.
+    Broken { span: Span, kind: BrokenKind },
+    /// The name at this place, from 0, is the first under which no policy stands.
+    NoPolicy { place: usize },
+    /// The first fault of the profile, or a statement of a form that isn't taken.
+    Outside { span: Span, cause: Cause },
+    /// The first construct that the target can't say.
+    Inexpressible { span: Span, kind: Kind },
+    /// Want of memory.
+    Memory,
+}
+
+fn fault_of_load(fault: LoadFault) -> TranslateFault
+    ensures { result ≡ fault_of_load fault }
 {
-    let items = checked.tree().items();
-    match write_policy(alloc, items, policy, name) {
-        Ok(text) => Ok(text),
-        Err(_) => Err(LoadFault::Memory),
+    match fault {
+        LoadFault::Broken { span, kind } => TranslateFault::Broken { span, kind },
+        LoadFault::NoPolicy { place } => TranslateFault::NoPolicy { place },
+        LoadFault::Outside { span, cause } => TranslateFault::Outside { span, cause },
+        LoadFault::Memory => TranslateFault::Memory,
+    }
+}
+
+/// The text that says in RPL, under `name`, what a policy says that RPL can say.
+fn print_policy(alloc: Global, policy: &Policy, name: &[u8]) -> Result<Vec<u8>, Memory>
+    requires straight { has_continue (parts_of policy.now).items (name_of (parts_of policy.now)) ≡ false }
+    requires sayable { PolicySays rpl_atom rpl_change (parts_of policy.now).items (name_of (parts_of policy.now)) }
+    requires named { HeadsBlock name.now }
+    ensures { IfOk result (λ text. Says (parts_of policy.now) name.now text.items) }
+{
+    let Policy::Ios(checked) = policy;
+    let (core, node) = lower_ios(alloc, checked)?;
+    let listed = steps(alloc, &core, node)?;
+    let text = print_rpl_policy(alloc, name, listed.as_slice())?;
+    Ok(text.into_vec())
+}
+
+/// The same of a policy that RPL may not be able to say.
+fn write_policy(alloc: Global, policy: &Policy, name: &[u8]) -> Result<Vec<u8>, TranslateFault>
+    requires straight { IsStraight (parts_of policy.now) }
+    requires named { HeadsBlock name.now }
+    ensures { WritesPolicy policy.now name.now result }
+{
+    match first_missing(alloc, policy, Dialect::Rpl) {
+        Ok(None) => match print_policy(alloc, policy, name) {
+            Ok(text) => Ok(text),
+            Err(_) => Err(TranslateFault::Memory),
+        },
+        Ok(Some(construct)) => Err(TranslateFault::Inexpressible {
+            span: construct.span,
+            kind: construct.kind,
+        }),
+        Err(_) => Err(TranslateFault::Memory),
     }
 }
 
 /// The text that says in RPL, under `name`, what the route-map `policy` of the IOS text `source` says.
 ///
-/// `NoPolicy` where no route-map stands under the name, `Outside` with the first fault of the profile
-/// where the policy has one, a form that isn't taken being unknown, `Memory` for want of memory. These
-/// forms are taken: prefix list entries that permit under a written number, map headers, descriptions,
-/// `match ip address prefix-list` with one name, and `set local-preference`.
+/// `NoPolicy` where no route-map stands under the name, `Outside` with the first fault of the profile where the policy has
+/// one, a `continue` line being of an unknown form for now, `Inexpressible` with the first construct that RPL can't say,
+/// `Memory` for want of memory. The time is near-linear in the size of the source and of the text.
 pub fn translate(
     alloc: Global,
     source: &[u8],
     policy: &[u8],
     name: &[u8],
-) -> Result<Vec<u8>, LoadFault>
+) -> Result<Vec<u8>, TranslateFault>
     requires { is_new_name name.now ≡ true }
     ensures { TranslatesTo source.now policy.now name.now result }
 {
-    match load_ios::<FirstForms>(alloc, source, policy) {
-        Ok(checked) => written_policy(alloc, &checked, policy, name),
-        Err(fault) => Err(fault),
+    match load_ios::<StraightForms>(alloc, source, policy) {
+        Ok(checked) => write_policy(alloc, &Policy::Ios(checked), name),
+        Err(fault) => Err(fault_of_load(fault)),
     }
 }
 
@@ -73,6 +117,6 @@ pub(crate) fn translate_text<'a>(
             status: Status::Done,
             text: written,
         }),
-        Err(fault) => Err(refused_load(asked.file, &[asked.policy.as_bytes()], text, fault)),
+        Err(fault) => Err(refused_translation(asked.file, &[asked.policy.as_bytes()], text, fault)),
     }
 }

@@ -1,3 +1,4 @@
 pub mod Languages
+pub mod NewNames
 pub mod Words
 pub mod Spelled

@@ -5,7 +5,7 @@ use Rattle.std.specs.List.{list_all}
 use Rattle.std.specs.Option.{is_some}
 use Rattle.clap.specs.Words.{App, Rule, fault_of, first_of, matches_of, new_app, new_rule, with_rule}
 use Rattle.route_types.specs.Words.{◌>>=◌}
-use Rattle.rpl_written.specs.Written.{is_new_name}
+use Rattle.policy_request.specs.NewNames.{is_new_name}
 use Rattle.policy_request.specs.Languages.{language_in, names_in, are_given}
 use Rattle.policy_request.specs.declared.command.JudgeWords.{JudgeWords}
 use Rattle.policy_request.specs.declared.command.Request.{Request as Asked}

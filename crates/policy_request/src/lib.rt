@@ -1,6 +1,6 @@
-//! What the words of the command ask for: a request as data. It stands on clap, which reads options and files, and on the
-//! forms of names in `rpl_written`. `command` and `clap_command` read the words, `word_forms` and `language` the values.
-//! Its definitions are in `specs/`: `Words` says which words make a request, `Languages` how policies are named.
+//! What the words of the command ask for: a request as data. It stands on clap, which reads options and files. `command` and
+//! `clap_command` read the words, `word_forms` and `language` the values. Its definitions are in `specs/`: `Words` says
+//! which words make a request, `Languages` how policies are named, `NewNames` how one that is written may be.
 #![tactic(auto)]
 
 mod clap_command;

@@ -1,7 +1,7 @@
 // The forms of words that name policies.
 ghost use Rattle.std.specs.Prelude.{◌≡◌, Some};
 ghost use Rattle.std.specs.List.{list_all};
-ghost use Rattle.rpl_written.specs.Written.{is_letter, is_name_byte, is_new_name};
+ghost use Rattle.policy_request.specs.NewNames.{is_letter, is_name_byte, is_new_name};
 ghost use Rattle.policy_request.specs.Words.{is_policy_byte, is_policy_word, is_policy_word_of};
 
 use crate::language::{Language, are_given};

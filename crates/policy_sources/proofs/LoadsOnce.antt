@@ -23,11 +23,10 @@ use Rattle.rpl_tree.specs.Broken.{broken}
 use Rattle.rpl_tree.specs.Tree as rpl_tree
 use Rattle.rpl_reader.specs.Profile as rpl
 use Rattle.rpl_reader.proofs.OneFirst.{one_is, sound_is}
-use Rattle.rpl_written.specs.declared.item.RplItem.{RplItem as PlainItem}
 use Rattle.policy_request.specs.Languages.{names_in}
 use Rattle.policy_request.specs.declared.language.Language.{Language}
-use Rattle.policy_request.specs.declared.language.Language.TheVariants as language
-use Rattle.policy_sources.specs.Source.{Taken, Dialect, Ios, Junos, Rpl, PlainRpl, OfIos, OfJunos, OfRpl, OfPlainRpl, Load, Loaded, Broken, NoPolicy, Outside, LoadsIos, LoadsTree, LoadsChain, LoadsNamed, LoadsPlainRpl, LoadsIn, AreAlike, broken_at, dialect_of}
+use Rattle.policy_request.specs.declared.language.Language.TheVariants.{Ios, Junos, Rpl}
+use Rattle.policy_sources.specs.Source.{Taken, OfIos, OfJunos, OfRpl, Load, Loaded, Broken, NoPolicy, Outside, LoadsIos, LoadsTree, LoadsChain, LoadsNamed, LoadsIn, AreAlike, broken_at}
 use Rattle.policy_sources.proofs.FirstOrNone.{first_or_none}
 
 -- ---- IOS
@@ -190,32 +189,18 @@ one_of_rpl : (text : List ℕ) → HasOne (rpl_tree.rpl_tree text) (broken (rpl_
 unfolding rpl_tree.tree_in
 one_of_rpl text = tree_or_fault (broken (rpl_cut text)) (rpl_tree.items_of None (rpl_cut text))
 
--- ---- plain RPL
-
-plain_alike : (names : List (List ℕ)) (text : List ℕ) (a b : Load) → LoadsPlainRpl names text a → LoadsPlainRpl names text b → AreAlike a b
-plain_alike [] text a b x y = absurd x
-plain_alike (name ∷ other ∷ names) text a b x y = absurd x
-plain_alike (name ∷ []) text (Loaded p) (Loaded q) x y = x.3 ∙ ap (λ (items : List PlainItem). OfPlainRpl items name) (same_Some x.0 y.0 (sym x.1 ∙ y.1)) ∙ sym y.3
-plain_alike (name ∷ []) text (Loaded p) (Broken span kind) x y = absurd y
-plain_alike (name ∷ []) text (Loaded p) (NoPolicy n) x y = absurd y
-plain_alike (name ∷ []) text (Loaded p) (Outside span cause) x y = absurd y
-plain_alike (name ∷ []) text (Broken span kind) b x y = absurd x
-plain_alike (name ∷ []) text (NoPolicy n) b x y = absurd x
-plain_alike (name ∷ []) text (Outside span cause) b x y = absurd x
-
 -- ---- any language
 
 -- what comes of a source is alike
-pub loads_alike : (taken : Taken) (dialect : Dialect) (names : List (List ℕ)) (text : List ℕ) (a b : Load) → LoadsIn dialect taken names text a → LoadsIn dialect taken names text b → AreAlike a b
+pub loads_alike : (taken : Taken) (language : Language) (names : List (List ℕ)) (text : List ℕ) (a b : Load) → LoadsIn language taken names text a → LoadsIn language taken names text b → AreAlike a b
 loads_alike taken Ios names text a b x y = ios_alike taken names (ios_tree text) a b x y
 loads_alike taken Junos names text a b x y = tree_alike (junos_tree text) (junos_fault text) (LoadsChain names) (one_of_both text) (chain_alike names) a b x y
 loads_alike taken Rpl names text a b x y = tree_alike (rpl_tree.rpl_tree text) (broken (rpl_cut text)) (LoadsNamed names) (one_of_rpl text) (named_alike names) a b x y
-loads_alike taken PlainRpl names text a b x y = plain_alike names text a b x y
 
 -- something comes of what a policy word names in a text
-pub some_load : (taken : Taken) (language : Language) (word text : List ℕ) → (load : Load) × LoadsIn (dialect_of language) taken (names_in language word) text load
-some_load taken language.Ios word text = ios_some taken word text
-some_load taken language.Junos word text =
-    tree_some (junos_tree text) (junos_fault text) (LoadsChain (names_in language.Junos word)) (one_of_both text) (chain_whole (names_in language.Junos word)) (chain_some (names_in language.Junos word))
-some_load taken language.Rpl word text =
+pub some_load : (taken : Taken) (language : Language) (word text : List ℕ) → (load : Load) × LoadsIn language taken (names_in language word) text load
+some_load taken Ios word text = ios_some taken word text
+some_load taken Junos word text =
+    tree_some (junos_tree text) (junos_fault text) (LoadsChain (names_in Junos word)) (one_of_both text) (chain_whole (names_in Junos word)) (chain_some (names_in Junos word))
+some_load taken Rpl word text =
     tree_some (rpl_tree.rpl_tree text) (broken (rpl_cut text)) (LoadsNamed (word ∷ [])) (one_of_rpl text) (named_whole word) (named_some word)

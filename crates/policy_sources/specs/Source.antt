@@ -27,31 +27,13 @@ use Rattle.rpl_tree.specs.Broken.{broken}
 use Rattle.rpl_tree.specs.Tree as tree
 use Rattle.rpl_reader.specs.Profile as rpl
 use Rattle.rpl_meaning.specs.Meaning.{rpl_meaning}
-use Rattle.rpl_written.specs.declared.item.RplItem.{RplItem as PlainItem}
-use Rattle.rpl_written.specs.Tree as plain_tree
-use Rattle.rpl_written.specs.Profile as plain
-use Rattle.rpl_written.specs.Meaning as plain_meaning
 use Rattle.policy_request.specs.Languages.{names_in}
 use Rattle.policy_request.specs.declared.language.Language.{Language}
-use Rattle.policy_request.specs.declared.language.Language.TheVariants as language
-
--- the languages that a text is read in; plain RPL is the part of RPL that translation writes, with a grammar, a profile and a
--- meaning of its own
-pub data Dialect : Type 0 where
-  Ios : Dialect
-  Junos : Dialect
-  Rpl : Dialect
-  PlainRpl : Dialect
-
--- the languages of judge among them
-abbrev pub dialect_of : Language → Dialect
-dialect_of language.Ios = Ios
-dialect_of language.Junos = Junos
-dialect_of language.Rpl = Rpl
+use Rattle.policy_request.specs.declared.language.Language.TheVariants.{Ios, Junos, Rpl}
 
 -- a policy by its names in a text of a language
 pub record Source : Type 0 where
-  pub dialect : Dialect
+  pub language : Language
   pub names : List (List ℕ)
   pub text : List ℕ
 
@@ -60,7 +42,6 @@ pub data Policy : Type 0 where
   OfIos : List IosItem → List ℕ → Policy
   OfJunos : List JunosItem → List (List ℕ) → Policy
   OfRpl : List RplItem → List ℕ → Policy
-  OfPlainRpl : List PlainItem → List ℕ → Policy
 
 -- what comes of a source: its policy; or where and how its text is broken, so that it has no tree; or the place, among
 -- its names, of the first that is not defined; or its first fault
@@ -113,44 +94,37 @@ LoadsNamed names items load = ⊥
 abbrev pub LoadsRpl : List (List ℕ) → List ℕ → Load → Type 0
 LoadsRpl names text load = LoadsTree (broken (rpl_cut text)) (tree.rpl_tree text) (LoadsNamed names) load
 
--- of a text in plain RPL, for one name; no source is read in it, so nothing is said of one that does not load
-abbrev pub LoadsPlainRpl : List (List ℕ) → List ℕ → Load → Type 0
-LoadsPlainRpl (name ∷ []) text (Loaded policy) = (items : List PlainItem) × (plain_tree.rpl_tree text ≡ Some items) × plain.InProfile name (plain_tree.forms items) × (policy ≡ OfPlainRpl items name)
-LoadsPlainRpl names text load = ⊥
-
 -- of a text by its language
-abbrev pub LoadsIn : Dialect → Taken → List (List ℕ) → List ℕ → Load → Type 0
+abbrev pub LoadsIn : Language → Taken → List (List ℕ) → List ℕ → Load → Type 0
 LoadsIn Ios taken names text load = LoadsIos taken names (ios_tree text) load
 LoadsIn Junos taken names text load = LoadsJunos names text load
 LoadsIn Rpl taken names text load = LoadsRpl names text load
-LoadsIn PlainRpl taken names text load = LoadsPlainRpl names text load
 
 -- of a source, for a verb that takes these forms
 abbrev pub Loads : Taken → Source → Load → Type 0
-Loads taken source load = LoadsIn source.dialect taken source.names source.text load
+Loads taken source load = LoadsIn source.language taken source.names source.text load
 
 -- what a policy makes of a route
 abbrev pub meaning : Policy → RouteParts → Outcome
 meaning (OfIos items name) r = ios_meaning items name r
 meaning (OfJunos items names) r = junos_meaning (forms_of items) names r
 meaning (OfRpl items name) r = rpl_meaning (tree.forms items) name r
-meaning (OfPlainRpl items name) r = plain_meaning.rpl_meaning (plain_tree.forms items) name r
 
 -- what a policy word of a language names in a text
 abbrev pub source_in : Language → List ℕ → List ℕ → Source
-source_in language word text = record { dialect = dialect_of language; names = names_in language word; text = text }
+source_in language word text = record { language = language; names = names_in language word; text = text }
 
 -- the policy of one name in an IOS text
 abbrev pub ios_source : List ℕ → List ℕ → Source
-ios_source name text = record { dialect = Ios; names = name ∷ []; text = text }
+ios_source name text = record { language = Ios; names = name ∷ []; text = text }
 
 -- the chain of policies of these names in a Junos text
 abbrev pub junos_source : List (List ℕ) → List ℕ → Source
-junos_source names text = record { dialect = Junos; names = names; text = text }
+junos_source names text = record { language = Junos; names = names; text = text }
 
 -- the policy of one name in an RPL text
 abbrev pub rpl_source : List ℕ → List ℕ → Source
-rpl_source name text = record { dialect = Rpl; names = name ∷ []; text = text }
+rpl_source name text = record { language = Rpl; names = name ∷ []; text = text }
 
 -- two things that come of a source are one policy, or the same refusal: broken at one place in one way, the same name that is
 -- not defined, or one cause at one place

@@ -48,8 +48,39 @@ line vty 0 4
 end
 ";
 
-/// The words of a judge by CUST.
-const JUDGE_CUSTOMER: &str = "judge --from ios --policy CUST edge.cfg r.txt";
+/// What CUST is in RPL.
+const EDGE_IN_RPL: &str = "\
+prefix-set CUST-p1
+  203.0.113.0/24 le 28
+end-set
+!
+community-set CUST-c1
+  65000:666
+end-set
+!
+as-path-set CUST-a1
+  ios-regex '^65001(_65001)*$'
+end-set
+!
+route-policy CUST
+  if community matches-any CUST-c1 then
+    drop
+  endif
+  if destination in CUST-p1 and as-path in CUST-a1 then
+    set local-preference 200
+    set community (65000:100) additive
+    done
+  endif
+  drop
+end-policy
+!
+";
+
+/// A judge by CUST in each of the two texts.
+const JUDGES: [(&str, &str); 2] = [
+    ("judge --from ios --policy CUST edge r.txt", EDGE),
+    ("judge --from rpl --policy CUST edge r.txt", EDGE_IN_RPL),
+];
 
 const TAGGED: &str = "\
 accept
@@ -62,6 +93,13 @@ med 0
 weight 0
 communities 65000:100
 ";
+
+#[test]
+fn customer_policy_in_rpl(rt: HostRuntime) -> Result<(), Fail> {
+    let words = "translate --from ios --policy CUST --to rpl --as CUST edge.cfg";
+    let texts = [("edge.cfg", EDGE)];
+    shows(&rt, &unfailing(words, &texts), (0, EDGE_IN_RPL, ""))
+}
 
 #[test]
 fn customer_routes(rt: HostRuntime) -> Result<(), Fail> {
@@ -93,16 +131,10 @@ fn customer_routes(rt: HostRuntime) -> Result<(), Fail> {
         ),
     ] {
         let route = route_text(rt.alloc(), &[prefix, path, communities], &[])?;
-        let texts = [("edge.cfg", EDGE), ("r.txt", route.as_str())];
-        shows(&rt, &unfailing(JUDGE_CUSTOMER, &texts), (0, outcome, ""))?;
+        for (words, policy) in JUDGES {
+            let texts = [("edge", policy), ("r.txt", route.as_str())];
+            shows(&rt, &unfailing(words, &texts), (0, outcome, ""))?;
+        }
     }
     Ok(())
-}
-
-#[test]
-fn customer_policy_is_not_translated(rt: HostRuntime) -> Result<(), Fail> {
-    let words = "translate --from ios --policy CUST --to rpl --as M edge.cfg";
-    let texts = [("edge.cfg", EDGE)];
-    let line = "edge.cfg:25:1: outside: unknown-form";
-    shows(&rt, &unfailing(words, &texts), (4, "", line))
 }

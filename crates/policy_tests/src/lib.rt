@@ -28,3 +28,5 @@ mod runs;
 mod texts;
 #[cfg(test)]
 mod words;
+#[cfg(test)]
+mod written;

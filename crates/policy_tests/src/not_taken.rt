@@ -1,40 +1,10 @@
-// Forms of IOS that `judge` takes and `translate` doesn't yet.
+// What `judge` takes and `translate` doesn't: constructs that RPL can't say, and `continue` for now.
 use crate::runs::{TRANSLATE, shows, unfailing};
 use std::test::Fail;
 
 #[test]
-fn forms_not_taken(rt: HostRuntime) -> Result<(), Fail> {
+fn not_taken(rt: HostRuntime) -> Result<(), Fail> {
     let rows = [
-        // An entry of a reached list that denies.
-        (
-            "\
-ip prefix-list PL seq 5 permit 10.0.0.0/8
-ip prefix-list PL seq 10 deny 11.0.0.0/8
-route-map IN permit 10
- match ip address prefix-list PL
-",
-            "in.cfg:2:1: outside: unknown-form",
-        ),
-        // An entry of a reached list without a number.
-        (
-            "\
-route-map IN permit 10
- match ip address prefix-list PL
-ip prefix-list PL seq 5 permit 10.0.0.0/8
-ip prefix-list PL permit 11.0.0.0/8
-",
-            "in.cfg:4:1: outside: unknown-form",
-        ),
-        // Two lists in one line.
-        (
-            "\
-ip prefix-list A seq 5 permit 10.0.0.0/8
-ip prefix-list B seq 5 permit 11.0.0.0/8
-route-map IN permit 10
- match ip address prefix-list A B
-",
-            "in.cfg:4:2: outside: unknown-form",
-        ),
         // Continue.
         (
             "\
@@ -42,65 +12,96 @@ route-map IN permit 10
   continue 20
 route-map IN permit 20
 ",
+            4,
             "in.cfg:2:3: outside: unknown-form",
         ),
-        // Communities, the line before its list.
+        // Exactly these communities.
         (
             "\
+ip community-list standard C permit 65001:1
 route-map IN permit 10
- match community C
-ip community-list standard C permit 65000:1
+ match community C exact-match
+ set weight 10
 ",
-            "in.cfg:2:2: outside: unknown-form",
+            5,
+            "in.cfg:3:2: inexpressible in rpl: exact-match",
         ),
-        // Communities, the list before its line.
+        // The first of two, and it stands above its list.
         (
             "\
-ip community-list standard C permit 65000:1
+route-map IN permit 20
+ set local-preference 200
+ match community C exact-match
 route-map IN permit 10
- match community C
+ match community C exact-match
+ip community-list standard C permit 65001:1
 ",
-            "in.cfg:1:1: outside: unknown-form",
+            5,
+            "in.cfg:3:2: inexpressible in rpl: exact-match",
         ),
-        // AS-path lists, the list before its line and behind it.
+        // A fault comes before what can't be said, wherever it stands.
         (
             "\
-ip as-path access-list 10 permit _65001_
+ip community-list standard C permit 65001:1
 route-map IN permit 10
- match as-path 10
+ match community C exact-match
+ match ip address prefix-list PL
 ",
-            "in.cfg:1:1: outside: unknown-form",
+            4,
+            "in.cfg:4:2: outside: undefined",
         ),
         (
             "\
+ip community-list standard C permit 65001:1
 route-map IN permit 10
- match as-path 10
-ip as-path access-list 10 permit _65001_
+ match community C exact-match
+ continue
 ",
-            "in.cfg:2:2: outside: unknown-form",
+            4,
+            "in.cfg:4:2: outside: unknown-form",
         ),
-        // A fault before the form that isn't taken.
+        // A fault before the form that isn't taken, and behind it.
         (
             "\
 route-map IN permit 10
  match ip address prefix-list PL
- set metric 5
+ continue
 ",
+            4,
             "in.cfg:2:2: outside: undefined",
         ),
-        // The form that isn't taken before a fault.
         (
             "\
 route-map IN permit 10
- set metric 5
+ continue
  match ip address prefix-list PL
 ",
+            4,
             "in.cfg:2:2: outside: unknown-form",
         ),
     ];
-    for (source, line) in rows {
+    for (source, status, line) in rows {
         let texts = [("in.cfg", source)];
-        shows(&rt, &unfailing(TRANSLATE, &texts), (4, "", line))?;
+        shows(&rt, &unfailing(TRANSLATE, &texts), (status, "", line))?;
     }
     Ok(())
+}
+
+#[test]
+fn not_reached(rt: HostRuntime) -> Result<(), Fail> {
+    let source = "\
+ip community-list standard C permit 65001:1
+route-map OUT permit 10
+ match community C exact-match
+ continue
+route-map IN permit 10
+";
+    let text = "\
+route-policy M
+  done
+end-policy
+!
+";
+    let texts = [("in.cfg", source)];
+    shows(&rt, &unfailing(TRANSLATE, &texts), (0, text, ""))
 }

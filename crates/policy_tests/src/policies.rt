@@ -1,7 +1,7 @@
 // What policies make of routes, a file a subject: each route and each outcome by the lines that differ from a
 // plain one's.
 use crate::routes::route_text;
-use crate::runs::{JUDGE, shows, unfailing};
+use crate::runs::{JUDGE, JUDGE_RPL, TRANSLATE, output_of, shows, unfailing};
 use std::alloc::{AllocGlobal, Global};
 use std::process::Abort;
 use std::test::Fail;
@@ -67,16 +67,47 @@ fn judged(rt: &(impl Abort + AllocGlobal), rows: &[Policy]) -> Result<(), Fail> 
     Ok(())
 }
 
+/// The policies of all subjects.
+const SUBJECTS: [&[Policy]; 5] = [
+    community_lists::POLICIES,
+    entries::POLICIES,
+    path_lists::POLICIES,
+    prefix_lists::POLICIES,
+    set_lines::POLICIES,
+];
+
 #[test]
 fn policies(rt: HostRuntime) -> Result<(), Fail> {
-    for rows in [
-        community_lists::POLICIES,
-        entries::POLICIES,
-        path_lists::POLICIES,
-        prefix_lists::POLICIES,
-        set_lines::POLICIES,
-    ] {
+    for rows in SUBJECTS {
         judged(&rt, rows)?;
+    }
+    Ok(())
+}
+
+/// RPL can say the policy, and translation takes it.
+fn is_translated(policy: &str) -> bool {
+    !policy.contains(" exact-match") && !policy.contains(" continue")
+}
+
+/// The policy as it is written in RPL makes of its routes what is said.
+fn judged_in_rpl(rt: &(impl Abort + AllocGlobal), policy: &Policy) -> Result<(), Fail> {
+    let (source, routes) = policy;
+    let texts = [("in.cfg", *source)];
+    let written = output_of(rt.alloc(), &unfailing(TRANSLATE, &texts))?;
+    for (given, verdict) in *routes {
+        makes(rt, JUDGE_RPL, written.as_str(), given, *verdict)?;
+    }
+    Ok(())
+}
+
+#[test]
+fn policies_in_rpl(rt: HostRuntime) -> Result<(), Fail> {
+    for rows in SUBJECTS {
+        for policy in rows {
+            if is_translated(policy.0) {
+                judged_in_rpl(&rt, policy)?;
+            }
+        }
     }
     Ok(())
 }

@@ -24,6 +24,9 @@ pub type Shown<'a> = (u8, &'a str, &'a str);
 /// The words of `judge` by the policy IN.
 pub const JUDGE: &str = "judge --from ios --policy IN in.cfg r.txt";
 
+/// The words of `judge` by the policy M of an RPL text.
+pub const JUDGE_RPL: &str = "judge --from rpl --policy M in.cfg r.txt";
+
 /// The words of `translate` of the policy IN, which is M in RPL.
 pub const TRANSLATE: &str = "translate --from ios --policy IN --to rpl --as M in.cfg";
 
@@ -76,6 +79,16 @@ fn run_to_its_end(alloc: Global, asked: &Run<'_>) -> Result<String, Fail> {
     let mut err = sink_of(alloc, asked.failing[2])?;
     let status = run(alloc, words.as_slice(), &mut shelf, &mut out, &mut err);
     text_of(alloc, out.bytes(), err.bytes(), status.number())
+}
+
+/// What the run puts to the output.
+pub fn output_of(alloc: Global, asked: &Run<'_>) -> Result<String, Fail> {
+    let words = words_of(alloc, asked.words)?;
+    let mut shelf = shelf_of(alloc, asked)?;
+    let mut out = sink_of(alloc, asked.failing[1])?;
+    let mut err = sink_of(alloc, asked.failing[2])?;
+    let _ = run(alloc, words.as_slice(), &mut shelf, &mut out, &mut err);
+    Ok(String::from_str(alloc, str::from_utf8(out.bytes())?)?)
 }
 
 /// A line with its end, and nothing for no line.
