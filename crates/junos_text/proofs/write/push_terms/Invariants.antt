@@ -1,0 +1,9 @@
+use Rattle.std.proofs.Common.{◌≡◌, ◌++◌, length, map, flat_map}
+use Rattle.junos_text.specs.Texts.{term_text}
+use Rattle.junos_text.proofs.write.push_terms.Given as goal
+
+abbrev pub invariant-loop-rest : goal.invariant-loop-rest
+invariant-loop-rest l = l.out.items ++ flat_map term_text l.rest ≡ l.initial.out.items ++ flat_map term_text l.terms
+
+abbrev pub decreases-loop-rest : goal.decreases-loop-rest
+decreases-loop-rest l = length l.rest
