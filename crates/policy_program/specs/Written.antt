@@ -1,11 +1,15 @@
 -- What is written of a checked route-map: a text that says what it does, or the first construct that can't be said.
-use Rattle.std.specs.Prelude.{◌≡◌, ℕ, false, List, Some, Ok, Err, Result, Vec}
+use Rattle.std.specs.Prelude.{◌≡◌, ℕ, true, false, List, Some, Ok, Err, Result, Vec}
+use Rattle.std.specs.List.{list_all}
 use Rattle.std.specs.declared.alloc.Global.{Global}
 use Rattle.route_types.specs.Route.{RouteParts, InRange}
 use Rattle.ios_tree.specs.Tree.{ios_tree}
 use Rattle.ios_reader.specs.Profile.{PolicyParts, IsPolicyOf}
 use Rattle.ios_meaning.specs.Meaning.{ios_meaning, name_of}
 use Rattle.ios_lower.specs.Continues.{has_continue}
+use Rattle.policy_core.specs.Guards.{outcome_of, step_says}
+use Rattle.policy_core.specs.Sayable.{rpl_atom, rpl_change}
+use Rattle.policy_core.specs.declared.step.Step.{Step}
 use Rattle.expressible_table.specs.Constructs.{constructs_of}
 use Rattle.expressible_table.specs.Missing.{AllGranted, IsFirstMissing}
 use Rattle.expressible_table.specs.declared.kind.Dialect.TheVariants.{Rpl}
@@ -29,6 +33,11 @@ pub record IsStraight (policy : PolicyParts) : Type 0 where
 -- what the table lists as a policy, as its reader gave it
 abbrev pub parts_of : Policy → PolicyParts
 parts_of (Ios policy) = policy
+
+-- steps give every route in range what the checked route-map does, and RPL can say their tests and changes
+pub record HasSteps (policy : PolicyParts) (steps : List Step) : Type 0 where
+  pub same : (r : RouteParts) → InRange r → outcome_of steps r ≡ ios_meaning policy.items (name_of policy) r
+  pub sayable : list_all (step_says rpl_atom rpl_change) steps ≡ true
 
 -- the text reads in RPL as a tree in which the name is in profile, gives every route in range what the checked route-map does,
 -- and touches nothing of others

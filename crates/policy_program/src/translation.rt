@@ -7,7 +7,7 @@ ghost use Rattle.policy_core.specs.Sayable.{rpl_atom, rpl_change};
 ghost use Rattle.rpl_text.specs.Written.{HeadsBlock};
 ghost use Rattle.policy_request.specs.NewNames.{is_new_name};
 ghost use Rattle.policy_request.specs.Words.{Translate, translate_view};
-ghost use Rattle.policy_program.specs.Written.{IsStraight, Says, WritesPolicy, parts_of};
+ghost use Rattle.policy_program.specs.Written.{HasSteps, IsStraight, Says, WritesPolicy, parts_of};
 ghost use Rattle.policy_program.specs.Layers.{AnswersOn, TranslatesTo, fault_of_load};
 
 use crate::refusal::{Fault, refused_translation};
@@ -16,7 +16,7 @@ use crate::status::Status;
 use crate::straight_forms::StraightForms;
 use expressible_table::{Dialect, Kind, Policy, first_missing};
 use ios_lower::lower_ios;
-use policy_core::steps;
+use policy_core::{Step, steps};
 use policy_request::TranslateWords;
 use policy_sources::{LoadFault, load_ios};
 use policy_text::{BrokenKind, Cause, Span};
@@ -50,27 +50,37 @@ fn fault_of_load(fault: LoadFault) -> TranslateFault
     }
 }
 
-/// The text that says in RPL, under `name`, what a policy says that RPL can say.
-fn print_policy(alloc: Global, policy: &Policy, name: &[u8]) -> Result<Vec<u8>, Memory>
-    requires straight { has_continue (parts_of policy.now).items (name_of (parts_of policy.now)) ≡ false }
-    requires sayable { PolicySays rpl_atom rpl_change (parts_of policy.now).items (name_of (parts_of policy.now)) }
-    requires named { HeadsBlock name.now }
-    ensures { IfOk result (λ text. Says (parts_of policy.now) name.now text.items) }
+/// The guarded steps of a policy that RPL can say. The policy is let go.
+fn policy_steps(alloc: Global, policy: Policy) -> Result<Vec<Step>, Memory>
+    requires straight { has_continue (parts_of policy).items (name_of (parts_of policy)) ≡ false }
+    requires sayable { PolicySays rpl_atom rpl_change (parts_of policy).items (name_of (parts_of policy)) }
+    ensures { IfOk result (λ listed. HasSteps (parts_of policy) listed.items) }
 {
     let Policy::Ios(checked) = policy;
-    let (core, node) = lower_ios(alloc, checked)?;
+    let (core, node) = lower_ios(alloc, &checked)?;
     let listed = steps(alloc, &core, node)?;
+    Ok(listed)
+}
+
+/// The text that says in RPL, under `name`, what a policy says that RPL can say.
+fn print_policy(alloc: Global, policy: Policy, name: &[u8]) -> Result<Vec<u8>, Memory>
+    requires straight { has_continue (parts_of policy).items (name_of (parts_of policy)) ≡ false }
+    requires sayable { PolicySays rpl_atom rpl_change (parts_of policy).items (name_of (parts_of policy)) }
+    requires named { HeadsBlock name.now }
+    ensures { IfOk result (λ text. Says (parts_of policy) name.now text.items) }
+{
+    let listed = policy_steps(alloc, policy)?;
     let text = print_rpl_policy(alloc, name, listed.as_slice())?;
     Ok(text.into_vec())
 }
 
 /// The same of a policy that RPL may not be able to say.
-fn write_policy(alloc: Global, policy: &Policy, name: &[u8]) -> Result<Vec<u8>, TranslateFault>
-    requires straight { IsStraight (parts_of policy.now) }
+fn write_policy(alloc: Global, policy: Policy, name: &[u8]) -> Result<Vec<u8>, TranslateFault>
+    requires straight { IsStraight (parts_of policy) }
     requires named { HeadsBlock name.now }
-    ensures { WritesPolicy policy.now name.now result }
+    ensures { WritesPolicy policy name.now result }
 {
-    match first_missing(alloc, policy, Dialect::Rpl) {
+    match first_missing(alloc, &policy, Dialect::Rpl) {
         Ok(None) => match print_policy(alloc, policy, name) {
             Ok(text) => Ok(text),
             Err(_) => Err(TranslateFault::Memory),
@@ -98,7 +108,7 @@ pub fn translate(
     ensures { TranslatesTo source.now policy.now name.now result }
 {
     match load_ios::<StraightForms>(alloc, source, policy) {
-        Ok(checked) => write_policy(alloc, &Policy::Ios(checked), name),
+        Ok(checked) => write_policy(alloc, Policy::Ios(checked), name),
         Err(fault) => Err(fault_of_load(fault)),
     }
 }

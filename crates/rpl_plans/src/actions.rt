@@ -28,12 +28,11 @@ pub struct PlannedActions {
     pub communities: Option<CommChange>,
 }
 
-/// What changes that a text of RPL can say, made one after the other, change at the end, an attribute at a time. The one
-/// error is want of memory.
+/// What changes, made one after the other, change at the end, an attribute at a time. The one error is want of memory.
 pub fn planned_actions(alloc: Global, changes: &[Change]) -> Result<PlannedActions, Memory>
-    requires { list_all rpl_change changes.now ≡ true }
     ensures acts { IfOk result (λ planned. (r : RouteParts) → acted_by planned r ≡ changed_by changes.now r) }
-    ensures fits { IfOk result (λ planned. FitsActions planned) }
+    // Where a text of RPL can say the changes, it can say their values.
+    ensures fits { IfOk result (λ planned. list_all rpl_change changes.now ≡ true → FitsActions planned) }
 {
     let mut planned = PlannedActions {
         local_preference: None,
@@ -55,9 +54,8 @@ pub fn planned_actions(alloc: Global, changes: &[Change]) -> Result<PlannedActio
 // Makes one more change behind those that are planned.
 #[tactic(auto, using(crate::proofs::FitLaws::all_with))]
 fn add(alloc: Global, planned: &mut PlannedActions, change: &Change) -> Result<(), Memory>
-    requires { rpl_change change.now ≡ true }
     ensures acts { IfOk result (λ _. (r : RouteParts) → acted_by planned.new r ≡ changed change.now (acted_by planned.old r)) }
-    ensures fits { IfOk result (λ _. FitsActions planned.old → FitsActions planned.new) }
+    ensures fits { IfOk result (λ _. rpl_change change.now ≡ true → FitsActions planned.old → FitsActions planned.new) }
 {
     match change {
         Change::NextHop(next_hop) => planned.next_hop = Some(*next_hop),

@@ -2,7 +2,8 @@
 //! an attribute at a time. Lists by first match become terms: neighbouring entries of one action are one set, and each
 //! permit set is one term, `not` of each deny set before it and the set itself. It stands on `policy_core`, whose steps it
 //! plans. Its definitions are in `specs/`: what tests hold on a route (`Holds`), what entries of lists ask (`Entries`), how
-//! they become terms (`Choices`), what actions make of a route (`Actions`), and what planned steps do (`Plans`).
+//! they become terms (`Choices`), what actions make of a route (`Actions`), what planned steps do (`Plans`), and whose values a
+//! text of RPL can say (`Fits`).
 #![tactic(auto)]
 
 mod actions;

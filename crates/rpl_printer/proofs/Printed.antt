@@ -26,7 +26,7 @@ use Rattle.rpl_policies.specs.Own.{own}
 use Rattle.rpl_writable.specs.Names.{IsOwnName}
 use Rattle.rpl_writable.proofs.OwnNames.{own_names}
 use Rattle.rpl_writable.proofs.Writable.{plan_writable}
-use Rattle.rpl_printer.specs.Printed.{Prints}
+use Rattle.rpl_printer.specs.Printed.{SaySteps, Prints}
 
 -- the forms of planned steps, each set by its equality
 abbrev pub planned_forms : List ℕ → List PlannedStep → List RplForm
@@ -37,43 +37,46 @@ tree_of : (o : Option (List RplItem)) (fs : List RplForm) → option_map forms o
 tree_of None fs e = absurd cc
 tree_of (Some items) fs e = (items, refl, same_Some (forms items) fs e)
 
--- forms that are lent are those of planned steps, and their sets can be counted
+-- forms are those of planned steps, and their sets can be counted
 pub record AreForms (name : List ℕ) (steps : List PlannedStep) (fs : List RplForm) : Type 0 where
   pub few : HasFew (sets_of own steps)
   pub are : fs ≡ planned_forms name steps
 
--- the same steps and the same forms, as they are lent to what makes and what writes them
-pub lent_forms : (name : List ℕ) (steps lent : List PlannedStep) (fs given : List RplForm) → lent ≡ steps → HasFew (sets_of own lent) → fs ≡ planned_forms name lent → given ≡ fs → AreForms name steps given
-lent_forms name steps lent fs given same few are also = record {
+-- the same of steps that are lent
+pub lent_forms : (name : List ℕ) (steps lent : List PlannedStep) (fs : List RplForm) → lent ≡ steps → HasFew (sets_of own lent) → fs ≡ planned_forms name lent → AreForms name steps fs
+lent_forms name steps lent fs same few are = record {
   few = subst (λ (ss : List PlannedStep). HasFew (sets_of own ss)) same few;
-  are = also ∙ are ∙ ap (planned_forms name) same;
+  are = are ∙ ap (planned_forms name) same;
 }
 
--- planned steps that fit may be written
-pub may_be_written : (name : List ℕ) (steps : List PlannedStep) (fs : List RplForm) → HeadsBlock name → FitsSteps steps → AreForms name steps fs → MayBeWritten fs
-may_be_written name steps fs heads fit is = subst MayBeWritten (sym is.are) (plan_writable own name steps heads is.few fit)
-
--- their text prints the steps
-pub printed : (name text : List ℕ) (steps : List Step) (planned : List PlannedStep) (fs : List RplForm)
-    → ((r : RouteParts) → InRange r → planned_outcome (planned_holds r) planned r ≡ outcome_of steps r)
-    → AreForms name planned fs → option_map forms (rpl_tree text) ≡ Some fs → block_names None (rpl_cut text) ≡ Some (names_of fs) → Prints name steps text
-printed name text steps planned fs same is read blocks =
+-- the forms of planned steps that fit say the steps that were planned
+pub forms_say : (name : List ℕ) (steps : List Step) (planned : List PlannedStep) (fs : List RplForm) → HeadsBlock name → FitsSteps planned
+    → ((r : RouteParts) → InRange r → planned_outcome (planned_holds r) planned r ≡ outcome_of steps r) → AreForms name planned fs → SaySteps name steps fs
+forms_say name steps planned fs heads fit same is =
     let named : NamesItsSets name (sets_of own planned) (written_by own name (sets_of own planned)) planned = names_sets own name planned is.few in
-    let found = tree_of (rpl_tree text) fs read in
-    let says : forms found.0 ≡ planned_forms name planned = found.2 ∙ is.are in
+    record {
+      written = subst MayBeWritten (sym is.are) (plan_writable own name planned heads is.few fit);
+      profile = λ items says.
+          plan_in_profile name (sets_of own planned) (written_by own name (sets_of own planned)) planned items (says ∙ is.are) named.few named.writes;
+      meaning = λ r range.
+          ap (λ (gs : List RplForm). rpl_meaning gs name r) is.are
+          ∙ plan_means name (sets_of own planned) (written_by own name (sets_of own planned)) planned named.few named.writes r range
+          ∙ same r range;
+      own =
+          subst (λ (gs : List RplForm). AllByRecursion (IsOwnName name) (names_of gs)) (sym is.are)
+          (own_names name (sets_of own planned) (written_by own name (sets_of own planned)) planned);
+    }
+
+-- the text of forms that say steps prints them
+pub printed : (name text : List ℕ) (steps : List Step) (fs lent : List RplForm) → SaySteps name steps fs → lent ≡ fs → option_map forms (rpl_tree text) ≡ Some lent
+    → block_names None (rpl_cut text) ≡ Some (names_of lent) → Prints name steps text
+printed name text steps fs lent say same read blocks =
+    let found = tree_of (rpl_tree text) lent read in
+    let says : forms found.0 ≡ fs = found.2 ∙ same in
     record {
       items = found.0;
       tree = found.1;
-      profile = plan_in_profile name (sets_of own planned) (written_by own name (sets_of own planned)) planned found.0 says named.few named.writes;
-      meaning = λ r range.
-          ap (λ (gs : List RplForm). rpl_meaning gs name r) says
-          ∙ plan_means name (sets_of own planned) (written_by own name (sets_of own planned)) planned named.few named.writes r range
-          ∙ same r range;
-      own = record {
-        names = names_of fs;
-        are = blocks;
-        own =
-            subst (λ (gs : List RplForm). AllByRecursion (IsOwnName name) (names_of gs)) (sym is.are)
-            (own_names name (sets_of own planned) (written_by own name (sets_of own planned)) planned);
-      };
+      profile = say.profile found.0 says;
+      meaning = λ r range. ap (λ (gs : List RplForm). rpl_meaning gs name r) says ∙ say.meaning r range;
+      own = record { names = names_of lent; are = blocks; own = subst (λ (gs : List RplForm). AllByRecursion (IsOwnName name) (names_of gs)) (sym same) say.own };
     }

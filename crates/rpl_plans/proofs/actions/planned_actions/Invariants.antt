@@ -10,8 +10,7 @@ use Rattle.rpl_plans.proofs.actions.planned_actions.Given as goal
 abbrev pub invariant-loop-rest : goal.invariant-loop-rest
 invariant-loop-rest l = record {
   acts : (r : RouteParts) → changed_by l.rest (acted_by l.planned r) ≡ changed_by l.changes r;
-  fits : FitsActions l.planned;
-  range : list_all rpl_change l.rest ≡ true;
+  fits : list_all rpl_change l.changes ≡ true → FitsActions l.planned × (list_all rpl_change l.rest ≡ true);
 }
 
 abbrev pub decreases-loop-rest : goal.decreases-loop-rest
