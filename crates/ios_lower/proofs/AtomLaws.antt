@@ -3,7 +3,7 @@ use Rattle.std.proofs.Common.{◌≡◌, refl, sym, ap, ◌∙◌, ℕ, Bool, tr
 use Rattle.std.specs.Prelude.{◌==◌, bytes_eq, map}
 use Rattle.std.specs.List.{list_any, AllByRecursion}
 use Rattle.route_types.specs.Address.{width}
-use Rattle.route_types.specs.Route.{RouteParts, InRange}
+use Rattle.route_types.specs.Route.{RouteParts}
 use Rattle.route_types.specs.declared.address.Family.{Family}
 use Rattle.route_types.specs.declared.route.NextHop.{NextHop as Hop}
 use Rattle.route_types.specs.declared.route.NextHop.TheVariants.{At, Own}
@@ -89,10 +89,10 @@ any_by f t u P same (x ∷ xs) h = ap (λ (b : Bool). b || list_any t (map f xs)
 abbrev pub PathsMatched : List IosItem → List (List ℕ) → Type 0
 PathsMatched all lists = AllByRecursion (λ list. AllByRecursion IsMatched (path_list list all)) lists
 
-paths_hold : (all : List IosItem) (lists : List (List ℕ)) (r : RouteParts) → PathsMatched all lists → InRange r → atom_holds (Path (map (path_list_of all) lists)) r ≡ list_any (λ list. path_answers (path_list list all) r.path) lists
+paths_hold : (all : List IosItem) (lists : List (List ℕ)) (r : RouteParts) → PathsMatched all lists → IsPath r.path → atom_holds (Path (map (path_list_of all) lists)) r ≡ list_any (λ list. path_answers (path_list list all) r.path) lists
 paths_hold all lists r m h =
     any_by (path_list_of all) (λ (l : PathList). nodes_answer l.entries r.path) (λ list. path_answers (path_list list all) r.path) (λ list. AllByRecursion IsMatched (path_list list all))
-    (λ list k. entries_matched (path_list list all) r.path k h.path) lists m
+    (λ list k. entries_matched (path_list list all) r.path k h) lists m
 
 -- ---- lines
 
@@ -108,7 +108,7 @@ abbrev pub LineMatched : List IosItem → MapLine → Type 0
 LineMatched all (MatchPath m) = PathsMatched all m.lists
 LineMatched all _ = Unit {0}
 
-line_by : (all : List IosItem) (l : MapLine) (r : RouteParts) → LineMatched all l → InRange r → holds_if (atom_of all l) r ≡ line_holds all r l
+line_by : (all : List IosItem) (l : MapLine) (r : RouteParts) → LineMatched all l → IsPath r.path → holds_if (atom_of all l) r ≡ line_holds all r l
 line_by all (MatchPrefix m) r k h = prefixes_hold all m.family m.lists r
 line_by all (MatchNextHop m) r k h = hops_by all m.family m.lists r.next_hop
 line_by all (MatchCommunity m) r k h = communities_hold all m.exact m.lists r
@@ -117,9 +117,9 @@ line_by all (MatchMetric ns) r k h = any_same (λ n. r.med == n) (λ n. n == r.m
 line_by all _ r k h = refl
 
 -- what a line tests holds where the line does
-pub line_tested : (all : List IosItem) (l : MapLine) (o : Option Atom) → o ≡ atom_of all l → LineMatched all l → (r : RouteParts) → InRange r → holds_if o r ≡ line_holds all r l
+pub line_tested : (all : List IosItem) (l : MapLine) (o : Option Atom) → o ≡ atom_of all l → LineMatched all l → (r : RouteParts) → IsPath r.path → holds_if o r ≡ line_holds all r l
 line_tested all l o e k r h = ap (λ (x : Option Atom). holds_if x r) e ∙ line_by all l r k h
 
 -- the same for a line that is this one
-pub tested_line : (all : List IosItem) (l m : MapLine) (o : Option Atom) → l ≡ m → o ≡ atom_of all m → LineMatched all m → (r : RouteParts) → InRange r → holds_if o r ≡ line_holds all r l
+pub tested_line : (all : List IosItem) (l m : MapLine) (o : Option Atom) → l ≡ m → o ≡ atom_of all m → LineMatched all m → (r : RouteParts) → IsPath r.path → holds_if o r ≡ line_holds all r l
 tested_line all l m o same e k r h = line_tested all m o e k r h ∙ ap (λ (x : MapLine). line_holds all r x) (sym same)

@@ -4,7 +4,8 @@ use Rattle.std.specs.Prelude.{map}
 use Rattle.std.specs.List.{list_all, AllByRecursion}
 use Rattle.std.proofs.lemmas.List.{append-nil}
 use Rattle.std.proofs.lemmas.List.Folds.{list_all-append}
-use Rattle.route_types.specs.Route.{RouteParts, InRange}
+use Rattle.route_types.specs.Route.{RouteParts}
+use Rattle.aspath_text.specs.Items.{IsPath}
 use Rattle.core_nodes.specs.Atoms.{atom_holds}
 use Rattle.core_nodes.specs.declared.atom.Atom.{Atom}
 use Rattle.core_nodes.specs.declared.atom.PathList.{PathList}
@@ -45,7 +46,7 @@ skipped true l b e = ap (λ (x : Bool). x && b) e
 skipped false l b e = refl
 
 -- a line that tests something adds its atom
-pub atoms_more : (items : List IosItem) (all left : List MapLine) (l : MapLine) (o : Option Atom) (a : Atom) (found more : List Atom) → o ≡ atom_of items l → o ≡ Some a → ((r : RouteParts) → InRange r → holds_if o r ≡ line_holds items r l)
+pub atoms_more : (items : List IosItem) (all left : List MapLine) (l : MapLine) (o : Option Atom) (a : Atom) (found more : List Atom) → o ≡ atom_of items l → o ≡ Some a → ((r : RouteParts) → IsPath r.path → holds_if o r ≡ line_holds items r l)
     → more ≡ found ++ a ∷ [] → AtomsFound items all (l ∷ left) found → AtomsFound items all left more
 unfolding atoms_of
 atoms_more items all left l o a found more e s w k t =
@@ -59,7 +60,7 @@ atoms_more items all left l o a found more e s w k t =
     }
 
 -- a line that tests nothing holds
-pub atoms_same : (items : List IosItem) (all left : List MapLine) (l : MapLine) (o : Option Atom) (found : List Atom) → o ≡ atom_of items l → o ≡ None → ((r : RouteParts) → InRange r → holds_if o r ≡ line_holds items r l)
+pub atoms_same : (items : List IosItem) (all left : List MapLine) (l : MapLine) (o : Option Atom) (found : List Atom) → o ≡ atom_of items l → o ≡ None → ((r : RouteParts) → IsPath r.path → holds_if o r ≡ line_holds items r l)
     → AtomsFound items all (l ∷ left) found → AtomsFound items all left found
 unfolding atoms_of
 atoms_same items all left l o found e s w t =
@@ -73,6 +74,6 @@ and_true true = refl
 and_true false = refl
 
 -- when no line is left, these are the atoms
-pub atoms_all : (items : List IosItem) (all : List MapLine) (found : List Atom) → AtomsFound items all [] found → (found ≡ atoms_of items all) × ((r : RouteParts) → InRange r → list_all (λ a. atom_holds a r) found ≡ list_all (line_holds items r) all)
+pub atoms_all : (items : List IosItem) (all : List MapLine) (found : List Atom) → AtomsFound items all [] found → (found ≡ atoms_of items all) × ((r : RouteParts) → IsPath r.path → list_all (λ a. atom_holds a r) found ≡ list_all (line_holds items r) all)
 unfolding atoms_of
 atoms_all items all found t = (sym (append-nil found) ∙ t.same, λ r h. and_true (list_all (λ a. atom_holds a r) found) ∙ t.holds r h)

@@ -15,6 +15,7 @@ use Rattle.route_types.specs.declared.community.Community.{Community}
 use Rattle.route_types.proofs.Sets.{same_community, set_of_ascending, set_itself, set_kept}
 use Rattle.community_sets.specs.Tests.{list_answers}
 use Rattle.aspath_text.specs.Items.{SomeOf}
+use Rattle.aspath_text.proofs.Lists.{all_append}
 use Rattle.ios_tree.specs.declared.item.CommunitySetting.{CommunitySetting}
 use Rattle.ios_tree.specs.declared.item.IosItem.{IosItem}
 use Rattle.ios_tree.specs.declared.item.MapLine.{MapLine}
@@ -24,7 +25,7 @@ use Rattle.ios_meaning.specs.Meaning.{deletes, set_by}
 use Rattle.ios_meaning.proofs.Drafts.{same_answers}
 use Rattle.ios_lower.specs.Deletions.{every}
 use Rattle.ios_lower.specs.Changes.{setting_change, changes_of, Deletes, IsChangeOf}
-use Rattle.ios_lower.specs.ChangeSteps.{AreSmall, IsSmall, HasCommunities, AreOfLine}
+use Rattle.ios_lower.specs.ChangeSteps.{AreSmall, IsSmall, IsTestable, AreOfLine}
 
 -- ---- changes one after the other
 
@@ -109,7 +110,7 @@ set_acts s all r h = ap (λ (w : List Community). record r { communities = set_o
 kept_ascending : (p : Community → Bool) (cs : List Community) → IsAscending cs → set_of (filter p cs) ≡ filter p cs
 kept_ascending p cs h = set_kept number same_community p cs ∙ ap (λ (w : List Community). filter p w) (set_itself number same_community cs h)
 
-delete_acts : (all : List IosItem) (list : List ℕ) (c : Change) (r : RouteParts) → Deletes all list c → HasCommunities r → changed c r ≡ set_by all (DeleteCommunities list) r
+delete_acts : (all : List IosItem) (list : List ℕ) (c : Change) (r : RouteParts) → Deletes all list c → IsTestable r → changed c r ≡ set_by all (DeleteCommunities list) r
 delete_acts all list (Communities c) r d h =
     let p : Community → Bool = λ x. not (list_answers (community_list false list all) (x ∷ [])) in
     let same : filter (λ x. not (fits_some fits c.removed x)) r.communities ≡ filter p r.communities =
@@ -124,23 +125,23 @@ delete_acts all list (LocalPreference n) r d h = absurd d
 delete_acts all list (Med n) r d h = absurd d
 delete_acts all list (Weight n) r d h = absurd d
 
--- ---- the communities stay in range
+-- ---- the path and the communities stay in range
 
 kept_in_range : (p : Community → Bool) (cs : List Community) → IsAscending cs → IsAscending (filter p cs)
 kept_in_range p cs h = subst IsAscending (kept_ascending p cs h) (set_of_ascending (filter p cs))
 
-line_keeps : (all : List IosItem) (l : MapLine) (r : RouteParts) → IsSmall l → HasCommunities r → HasCommunities (set_by all l r)
+line_keeps : (all : List IosItem) (l : MapLine) (r : RouteParts) → IsSmall l → IsTestable r → IsTestable (set_by all l r)
 line_keeps all (SetCommunity s) r k h =
-    record { small = small_set (elim s.additive [ true ↦ r.communities | false ↦ [] ] ++ s.communities) (base_small s.additive r.communities s.communities h.small k); ascending = set_of_ascending (elim s.additive [ true ↦ r.communities | false ↦ [] ] ++ s.communities) }
+    record { path = h.path; small = small_set (elim s.additive [ true ↦ r.communities | false ↦ [] ] ++ s.communities) (base_small s.additive r.communities s.communities h.small k); ascending = set_of_ascending (elim s.additive [ true ↦ r.communities | false ↦ [] ] ++ s.communities) }
 line_keeps all (DeleteCommunities list) r k h =
     let p : Community → Bool = λ c. not (list_answers (community_list false list all) (c ∷ [])) in
-    record { small = small_kept p r.communities h.small; ascending = kept_in_range p r.communities h.ascending }
-line_keeps all (SetLocalPreference n) r k h = record { small = h.small; ascending = h.ascending }
-line_keeps all (SetMetric n) r k h = record { small = h.small; ascending = h.ascending }
-line_keeps all (SetWeight n) r k h = record { small = h.small; ascending = h.ascending }
-line_keeps all (SetPrepend ns) r k h = record { small = h.small; ascending = h.ascending }
-line_keeps all (SetOrigin o) r k h = record { small = h.small; ascending = h.ascending }
-line_keeps all (SetNextHop a) r k h = record { small = h.small; ascending = h.ascending }
+    record { path = h.path; small = small_kept p r.communities h.small; ascending = kept_in_range p r.communities h.ascending }
+line_keeps all (SetLocalPreference n) r k h = record { path = h.path; small = h.small; ascending = h.ascending }
+line_keeps all (SetMetric n) r k h = record { path = h.path; small = h.small; ascending = h.ascending }
+line_keeps all (SetWeight n) r k h = record { path = h.path; small = h.small; ascending = h.ascending }
+line_keeps all (SetPrepend ns) r k h = record { path = all_append (λ n. n < 2 ^ 32) ns r.path k h.path; small = h.small; ascending = h.ascending }
+line_keeps all (SetOrigin o) r k h = record { path = h.path; small = h.small; ascending = h.ascending }
+line_keeps all (SetNextHop a) r k h = record { path = h.path; small = h.small; ascending = h.ascending }
 line_keeps all (MatchPrefix m) r k h = h
 line_keeps all (MatchNextHop m) r k h = h
 line_keeps all (MatchCommunity m) r k h = h
@@ -151,8 +152,8 @@ line_keeps all Description r k h = h
 
 -- ---- the changes of a line
 
-of_line : (all : List IosItem) (l : MapLine) (cs : List Change) → IsSmall l → ((r : RouteParts) → HasCommunities r → changed_by cs r ≡ set_by all l r) → AllByRecursion (IsChangeOf all l) cs → AreOfLine all l cs
-of_line all l cs k acts own = record { acts = acts; keeps = λ r h. subst HasCommunities (sym (acts r h)) (line_keeps all l r k h); own = own }
+of_line : (all : List IosItem) (l : MapLine) (cs : List Change) → IsSmall l → ((r : RouteParts) → IsTestable r → changed_by cs r ≡ set_by all l r) → AllByRecursion (IsChangeOf all l) cs → AreOfLine all l cs
+of_line all l cs k acts own = record { acts = acts; keeps = λ r h. subst IsTestable (sym (acts r h)) (line_keeps all l r k h); own = own }
 
 -- the changes of a line that doesn't delete
 exact_line : (all : List IosItem) (l : MapLine) → deletes l ≡ false → IsSmall l → AreOfLine all l (changes_of l)

@@ -7,7 +7,7 @@ use Rattle.route_types.specs.Route.{RouteParts, InRange}
 use Rattle.route_types.specs.declared.change.Change.{Change}
 use Rattle.route_types.specs.declared.route.Outcome.{Outcome}
 use Rattle.route_types.specs.declared.route.Outcome.TheVariants.{Reject, Accept}
-use Rattle.aspath_text.specs.Items.{SomeOf}
+use Rattle.aspath_text.specs.Items.{IsPath, SomeOf}
 use Rattle.core_nodes.specs.Atoms.{atom_holds}
 use Rattle.core_nodes.specs.Made.{Keeps, IsMade}
 use Rattle.core_nodes.specs.Nodes.{AreNodes}
@@ -23,7 +23,7 @@ use Rattle.ios_meaning.specs.Order.{put_in_order, in_order}
 use Rattle.ios_meaning.specs.Meaning.{line_holds, entry_holds, set_by_entry, ios_meaning}
 use Rattle.ios_lower.specs.Atoms.{atom_of, in_front, atoms_of}
 use Rattle.ios_lower.specs.Changes.{IsChangeOf}
-use Rattle.ios_lower.specs.ChangeSteps.{HasCommunities, IsOfLines, AreOfEntry}
+use Rattle.ios_lower.specs.ChangeSteps.{IsTestable, IsOfLines, AreOfEntry}
 use Rattle.ios_lower.specs.Chains.{IsTestOf, IsActOf, Tests, Acts}
 use Rattle.ios_lower.specs.Continues.{has_continue}
 use Rattle.ios_lower.specs.Lowered.{IsBody, IsEntry, AreLowered, IsPolicyNode}
@@ -53,20 +53,21 @@ unfolding atoms_of
 atom_of_line all a [] h = absurd h
 atom_of_line all a (l ∷ ls) h = tested_by all a l (atom_of all l) (atoms_of all ls) ls refl (atom_of_line all a ls) h
 
-test_says : (all : List IosItem) (e : Entry) (k : NodeKind) → IsTestOf (atoms_of all e.lines) k → IsOfEntries all (e ∷ []) k
+pub test_says : (all : List IosItem) (e : Entry) (k : NodeKind) → IsTestOf (atoms_of all e.lines) k → IsOfEntries all (e ∷ []) k
 test_says all e (Test a then other) h = inl (atom_of_line all a e.lines h)
 test_says all e (Do c next) h = absurd h
 test_says all e (Stop accept) h = tt
 
-act_says : (all : List IosItem) (e : Entry) (cs : List Change) → AllByRecursion (IsOfLines all e.lines) cs → (k : NodeKind) → IsActOf cs k → IsOfEntries all (e ∷ []) k
+pub act_says : (all : List IosItem) (e : Entry) (cs : List Change) → AllByRecursion (IsOfLines all e.lines) cs → (k : NodeKind) → IsActOf cs k → IsOfEntries all (e ∷ []) k
 act_says all e cs own (Test a then other) h = absurd h
 act_says all e cs own (Do c next) h = inl (one_of_all (IsOfLines all e.lines) c cs own h)
 act_says all e cs own (Stop accept) h = tt
 
 -- ---- an entry
 
-communities_of : (r : RouteParts) → InRange r → HasCommunities r
-communities_of r h = record { small = h.communities; ascending = h.ascending }
+-- what lists are asked about of a route in range
+pub testable : (r : RouteParts) → InRange r → IsTestable r
+testable r h = record { path = h.path; small = h.communities; ascending = h.ascending }
 
 -- p: the entry permits
 given_is : (all : List IosItem) (e : Entry) (r : RouteParts) (p : Bool) → e.permit ≡ p → given_by all e r ≡ elim p [ true ↦ Accept (set_by_entry all e r) | false ↦ Reject ]
@@ -100,7 +101,7 @@ body_permits all e old now new cs end n p same d m k o t =
 
 -- the tests of an entry stand before what it gives
 pub entry_tested : (all : List IosItem) (e : Entry) (old now new : List NodeKind) (atoms : List Atom) (body behind n : ℕ) → behind < length old → IsBody all e old now body → atoms ≡ atoms_of all e.lines
-    → ((r : RouteParts) → InRange r → list_all (λ a. atom_holds a r) atoms ≡ list_all (line_holds all r) e.lines) → Tests now new atoms [] body behind n → IsEntry all e old new behind n
+    → ((r : RouteParts) → IsPath r.path → list_all (λ a. atom_holds a r) atoms ≡ list_all (line_holds all r) e.lines) → Tests now new atoms [] body behind n → IsEntry all e old new behind n
 entry_tested all e old now new atoms body behind n w b same holds t =
     record {
       within = t.within;
@@ -108,8 +109,8 @@ entry_tested all e old now new atoms body behind n w b same holds t =
           (grows_wider (IsTestOf atoms) (IsOfEntries all (e ∷ [])) now new (λ k h. test_says all e k (subst (λ (bs : List Atom). IsTestOf bs k) same h)) t.grows);
       settled = λ y. t.settled b.settled (settled_grown old now behind b.keeps w y);
       answers = λ r h. t.answers r
-          ∙ ap (λ (x : Bool). elim x [ true ↦ outcome_at now body r | false ↦ outcome_at now behind r ]) (holds r h)
-          ∙ ap (λ (o : Outcome). elim (entry_holds all r e) [ true ↦ o | false ↦ outcome_at now behind r ]) (b.answers r (communities_of r h))
+          ∙ ap (λ (x : Bool). elim x [ true ↦ outcome_at now body r | false ↦ outcome_at now behind r ]) (holds r h.path)
+          ∙ ap (λ (o : Outcome). elim (entry_holds all r e) [ true ↦ o | false ↦ outcome_at now behind r ]) (b.answers r (testable r h))
           ∙ ap (λ (o : Outcome). elim (entry_holds all r e) [ true ↦ given_by all e r | false ↦ o ]) (b.keeps.answers behind w r);
     }
 
@@ -176,7 +177,7 @@ order_some : (P : Entry → Type 0) (key : Entry → ℕ) (es : List Entry) → 
 order_some P key [] h = h
 order_some P key (e ∷ es) h = behind_first P e (in_order key es) es (order_some P key es) (put_some P key e (in_order key es) h)
 
-order_says : (all : List IosItem) (key : Entry → ℕ) (es : List Entry) (k : NodeKind) → IsOfEntries all (in_order key es) k → IsOfEntries all es k
+pub order_says : (all : List IosItem) (key : Entry → ℕ) (es : List Entry) (k : NodeKind) → IsOfEntries all (in_order key es) k → IsOfEntries all es k
 order_says all key es (Test a then other) h = order_some (λ e. SomeOf (λ l. atom_of all l ≡ Some a) e.lines) key es h
 order_says all key es (Do c next) h = order_some (λ e. SomeOf (λ l. IsChangeOf all l c) e.lines) key es h
 order_says all key es (Stop accept) h = tt

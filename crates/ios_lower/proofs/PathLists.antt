@@ -7,7 +7,7 @@ use Rattle.ios_tree.specs.declared.item.IosForm.{IosForm}
 use Rattle.ios_tree.specs.declared.item.IosForm.TheVariants.{PathEntry as OfPathList}
 use Rattle.ios_tree.specs.declared.item.IosItem.{IosItem}
 use Rattle.ios_tree.specs.declared.item.PathListEntry.{PathListEntry}
-use Rattle.ios_meaning.specs.Lists.{path_entry_from, path_list}
+use Rattle.ios_meaning.specs.Lists.{path_list}
 use Rattle.ios_lower.specs.Atoms.{path_entry_of}
 use Rattle.ios_lower.specs.AtomSteps.{IsMatched, AddsPath}
 use Rattle.ios_lower.specs.Named.{Listed, under}

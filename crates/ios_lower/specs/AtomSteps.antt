@@ -1,7 +1,7 @@
 -- Tests as the code finds them, one entry, list and line after the other.
 use Rattle.std.specs.Prelude.{◌≡◌, ◌++◌, ◌&&◌, ℕ, Bool, true, List, Option, Some, None, map}
 use Rattle.std.specs.List.{list_all, AllByRecursion}
-use Rattle.route_types.specs.Route.{RouteParts, InRange}
+use Rattle.route_types.specs.Route.{RouteParts}
 use Rattle.community_sets.specs.declared.list.CommEntry.{CommEntry}
 use Rattle.aspath_text.specs.Finds.{finds_in}
 use Rattle.aspath_text.specs.Items.{IsPath}
@@ -41,4 +41,4 @@ holds_if None r = true
 -- the atoms of the lines that are not left, and what they hold for
 pub record AtomsFound (items : List IosItem) (all left : List MapLine) (found : List Atom) : Type 0 where
   pub same : found ++ atoms_of items left ≡ atoms_of items all
-  pub holds : (r : RouteParts) → InRange r → (list_all (λ a. atom_holds a r) found && list_all (line_holds items r) left) ≡ list_all (line_holds items r) all
+  pub holds : (r : RouteParts) → IsPath r.path → (list_all (λ a. atom_holds a r) found && list_all (line_holds items r) left) ≡ list_all (line_holds items r) all

@@ -13,7 +13,7 @@ use Rattle.policy_core.specs.Settled.{IsSettled}
 use Rattle.ios_tree.specs.declared.item.IosItem.{IosItem}
 use Rattle.ios_reader.specs.Entries.{Entry}
 use Rattle.ios_meaning.specs.Meaning.{ios_meaning}
-use Rattle.ios_lower.specs.ChangeSteps.{HasCommunities}
+use Rattle.ios_lower.specs.ChangeSteps.{IsTestable}
 use Rattle.ios_lower.specs.Grows.{Grows}
 use Rattle.ios_lower.specs.OfPolicy.{IsOfEntries, IsOfPolicy, PolicySays}
 use Rattle.ios_lower.specs.Runs.{given_by, entry_or, entries_or}
@@ -24,7 +24,7 @@ pub record IsBody (all : List IosItem) (e : Entry) (old new : List NodeKind) (n 
   pub grows : Grows (IsOfEntries all (e ∷ [])) old new
   pub keeps : Keeps old new
   pub settled : IsSettled new n
-  pub answers : (r : RouteParts) → HasCommunities r → outcome_at new n r ≡ given_by all e r
+  pub answers : (r : RouteParts) → IsTestable r → outcome_at new n r ≡ given_by all e r
 
 -- a node gives what an entry gives, or else what a node behind it gives
 pub record IsEntry (all : List IosItem) (e : Entry) (old new : List NodeKind) (behind n : ℕ) : Type 0 where

@@ -2,7 +2,8 @@
 
 ghost use Rattle.std.specs.Prelude.{◌≡◌, ◌∷◌, ℕ, List, IfOk, map};
 ghost use Rattle.std.specs.List.{list_all, AllByRecursion};
-ghost use Rattle.route_types.specs.Route.{RouteParts, InRange};
+ghost use Rattle.route_types.specs.Route.{RouteParts};
+ghost use Rattle.aspath_text.specs.Items.{IsPath};
 ghost use Rattle.core_nodes.specs.Atoms.{atom_holds};
 ghost use Rattle.ios_meaning.specs.Meaning.{line_holds};
 ghost use Rattle.ios_meaning.specs.Lists.{single, prefix_list, test_of, community_list, path_list};
@@ -272,7 +273,7 @@ fn path_lists<'a>(
 fn atom_of<'a>(alloc: Global, lists: &Lists<'a>, line: &'a MapLine) -> Result<Option<Atom>, Memory>
     requires { AreLists lists.now }
     ensures same { IfOk result (λ o. o ≡ atom_of lists.now.items.now line.now) }
-    ensures holds { IfOk result (λ o. (r : RouteParts) → InRange r → holds_if o r ≡ line_holds lists.now.items.now r line.now) }
+    ensures holds { IfOk result (λ o. (r : RouteParts) → IsPath r.path → holds_if o r ≡ line_holds lists.now.items.now r line.now) }
 {
     match line {
         MapLine::MatchPrefix(named) => {
@@ -322,15 +323,16 @@ fn push_atom<'a>(
     }
 }
 
-/// What lines test, one after the other. The one error is want of memory.
-pub(crate) fn atoms_of<'a>(
+/// What the lines of an entry test, one after the other: an entry holds where all of them do. The lists are those of the
+/// tree that the lines stand in. The one error is want of memory.
+pub fn atoms_of<'a>(
     alloc: Global,
     lists: &Lists<'a>,
     lines: &[&'a MapLine],
 ) -> Result<Vec<Atom>, Memory>
     requires { AreLists lists.now }
     ensures same { IfOk result (λ found. found.items ≡ atoms_of lists.now.items.now (map (λ l. l.now) lines.now)) }
-    ensures holds { IfOk result (λ found. (r : RouteParts) → InRange r → list_all (λ a. atom_holds a r) found.items ≡ list_all (line_holds lists.now.items.now r) (map (λ l. l.now) lines.now)) }
+    ensures holds { IfOk result (λ found. (r : RouteParts) → IsPath r.path → list_all (λ a. atom_holds a r) found.items ≡ list_all (line_holds lists.now.items.now r) (map (λ l. l.now) lines.now)) }
 {
     let mut found = Vec::new(alloc);
     let mut rest = lines;

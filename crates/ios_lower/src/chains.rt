@@ -7,13 +7,8 @@ use policy_core::{Atom, Core, Node};
 use route_types::{Change, Memory};
 
 /// The node that goes to `yes` where all atoms hold, which are tested from the first one on, and else to
-/// `no`. The one error is want of memory.
-pub(crate) fn test_all(
-    core: &mut Core,
-    atoms: Vec<Atom>,
-    yes: Node,
-    no: Node,
-) -> Result<Node, Memory>
+/// `no`; both are nodes of the graph. The one error is want of memory.
+pub fn test_all(core: &mut Core, atoms: Vec<Atom>, yes: Node, no: Node) -> Result<Node, Memory>
     requires of_yes { yes < length core.old }
     requires of_no { no < length core.old }
     ensures { IfOk result (λ n. Tests core.old core.new atoms.items [] yes no n) }
@@ -27,9 +22,9 @@ pub(crate) fn test_all(
     Ok(node)
 }
 
-/// The node that makes the changes, from the first one on, and goes on to `behind`. The one error is want of
-/// memory.
-pub(crate) fn act_all(core: &mut Core, changes: Vec<Change>, behind: Node) -> Result<Node, Memory>
+/// The node that makes the changes, from the first one on, and goes on to `behind`, a node of the graph. The one
+/// error is want of memory.
+pub fn act_all(core: &mut Core, changes: Vec<Change>, behind: Node) -> Result<Node, Memory>
     requires { behind < length core.old }
     ensures { IfOk result (λ n. Acts core.old core.new changes.items [] behind n) }
 {

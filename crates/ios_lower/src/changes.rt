@@ -1,6 +1,7 @@
 //! The changes of the set lines of an entry.
 
 ghost use Rattle.std.specs.Prelude.{◌≡◌, ◌<◌, ◌^◌, ◌∷◌, [], List, true, false, IfOk, map, reverse};
+ghost use Rattle.aspath_text.specs.Items.{IsPath};
 ghost use Rattle.ios_meaning.specs.Meaning.{deletes};
 ghost use Rattle.ios_meaning.specs.Drafts.{deletes_as};
 ghost use Rattle.ios_tree.specs.declared.item.IosItem.{IosItem};
@@ -25,16 +26,34 @@ fn one(alloc: Global, change: Change) -> Result<Vec<Change>, Memory>
     Ok(found)
 }
 
-// A number each, the last one first.
-fn prepends(alloc: Global, numbers: &[u32]) -> Result<Vec<Change>, Memory>
-    ensures { IfOk result (λ cs. cs.items ≡ reverse (map (λ n. Change.Prepend n) numbers.now)) }
+// A number put before the path, which has 32 bits.
+fn prepend(number: &u32) -> Change
+    ensures same { result ≡ Change.Prepend number.now }
+    ensures small { number.now < 2 ^ 32 }
+{
+    Change::Prepend(*number)
+}
+
+// A number each, the first one first; each has 32 bits.
+fn each_prepended(alloc: Global, numbers: &[u32]) -> Result<Vec<Change>, Memory>
+    ensures same { IfOk result (λ cs. cs.items ≡ map (λ n. Change.Prepend n) numbers.now) }
+    ensures small { IfOk result (λ cs. IsPath numbers.now) }
 {
     let mut found = Vec::new(alloc);
     let mut rest = numbers;
     while let [first, behind @ ..] = rest {
-        found.push(Change::Prepend(*first))?;
+        found.push(prepend(first))?;
         rest = behind;
     }
+    Ok(found)
+}
+
+// A number each, the last one first; each has 32 bits.
+fn prepends(alloc: Global, numbers: &[u32]) -> Result<Vec<Change>, Memory>
+    ensures same { IfOk result (λ cs. cs.items ≡ reverse (map (λ n. Change.Prepend n) numbers.now)) }
+    ensures small { IfOk result (λ cs. IsPath numbers.now) }
+{
+    let mut found = each_prepended(alloc, numbers)?;
     found.reverse();
     Ok(found)
 }
@@ -216,9 +235,9 @@ fn changes_of_sort<'a>(
     Ok(found)
 }
 
-/// The changes of an entry of these lines: the deletions of communities come first. The one error is
-/// want of memory.
-pub(crate) fn entry_changes<'a>(
+/// The changes of an entry of these lines, in the order in which they run: the deletions of communities come first. The
+/// lists are those of the tree that the lines stand in. The one error is want of memory.
+pub fn entry_changes<'a>(
     alloc: Global,
     lists: &Lists<'a>,
     lines: &[&'a MapLine],

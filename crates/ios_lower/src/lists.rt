@@ -97,7 +97,7 @@ fn path_lists<'a>(alloc: Global, items: &'a [IosItem]) -> Result<Listed<'a, Path
 }
 
 /// The lists of a tree, with what those take away by which the entries delete. The one error is want of memory.
-pub(crate) fn lists_of<'a>(
+pub fn lists_of<'a>(
     alloc: Global,
     items: &'a [IosItem],
     entries: &[MapEntry<'a>],

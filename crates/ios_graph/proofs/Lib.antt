@@ -1,0 +1,4 @@
+mod Halving
+mod Runs
+mod Lowered
+mod Examples
