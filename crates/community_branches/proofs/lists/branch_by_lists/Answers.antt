@@ -1,0 +1,8 @@
+use Rattle.std.proofs.Common.{refl}
+use Rattle.community_branches.proofs.Steps.{lists_next}
+use Rattle.community_branches.proofs.lists.branch_by_lists.Goals as goal
+
+pub loop-rest-preserved : goal.loop-rest-preserved
+loop-rest-preserved c =
+    lists_next c.args.core.now c.loop-rest.core c.branch_by_list.new.core c.args.change.now c.args.lists.now c.loop-rest.rest.now c.last-item.result _ c.args.yes c.args.no c.loop-rest.node c.in_ok-node.node c.requires.of_yes c.requires.of_no
+    c.loop-rest.invariant c.in-len1-up.len_at_least c.last-item.is refl c.in_ok-node.ensures

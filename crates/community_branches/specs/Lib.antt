@@ -1,0 +1,4 @@
+pub mod Branches
+pub mod Asked
+pub mod Tests
+pub mod Done

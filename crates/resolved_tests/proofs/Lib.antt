@@ -1,0 +1,3 @@
+pub mod AnswerLaws
+mod Examples
+pub mod DecidedLaws

@@ -1,0 +1,5 @@
+pub mod EndLaws
+pub mod PlanLaws
+pub mod MakeLaws
+pub mod TaskLaws
+mod Examples
