@@ -4,6 +4,8 @@
 #![tactic(auto)]
 
 #[cfg(test)]
+mod classes_of_paths;
+#[cfg(test)]
 mod community_changes;
 #[cfg(test)]
 mod diagrams;

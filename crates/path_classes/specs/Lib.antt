@@ -1,0 +1,10 @@
+pub mod Numbers
+pub mod Lines
+pub mod Threads
+pub mod Tidy
+pub mod States
+pub mod Letters
+pub mod Answers
+pub mod Sorting
+pub mod Walk
+pub mod Classes
