@@ -1,10 +1,10 @@
 -- Numbers of one letter lead threads alike.
-use Rattle.std.proofs.Common.{◌≡◌, refl, sym, ap, ◌∙◌, ℕ, suc, ◌-◌, Bool, true, false, ◌&&◌, ◌||◌, ◌==◌, List, [], ◌∷◌, ◌++◌, map, Option, Some, None}
-use Rattle.std.specs.List.{list_any, flat_map, AllByRecursion}
+use Rattle.std.proofs.Common.{◌≡◌, refl, ap, ℕ, ◌-◌, Bool, ◌&&◌, ◌||◌, ◌==◌, List, [], ◌∷◌, ◌++◌, map, Option}
+use Rattle.std.specs.List.{AllByRecursion}
 use Rattle.aspath_text.specs.PathMatches.{has_room, one_fewer, front_fits}
 use Rattle.path_classes.specs.Lines.{turn_holds, turns_take}
 use Rattle.path_classes.specs.Letters.{turn_tests, signature}
-use Rattle.path_classes.specs.Threads.{turns_at, goes_on, stage_takes, thread_says, says}
+use Rattle.path_classes.specs.Threads.{turns_at, goes_on, stage_takes, says}
 use Rattle.path_classes.specs.declared.lines.Turn.{Turn}
 use Rattle.path_classes.specs.declared.lines.Line.{Line}
 use Rattle.path_classes.specs.declared.threads.Stage.{Stage}

@@ -1,12 +1,12 @@
 -- What the patterns answer to the paths of a state.
-use Rattle.std.proofs.Common.{◌≡◌, refl, sym, ap, ◌∙◌, subst, ℕ, zero, suc, ◌+◌, ◌<◌, ◌≤◌, inl, inr, Bool, true, false, ◌&&◌, ◌||◌, ◌==◌, List, [], ◌∷◌, length, Option, Some, None, slice_get, get_or, set, replicate, arith, ne_eqb}
+use Rattle.std.proofs.Common.{◌≡◌, refl, sym, ap, ◌∙◌, ℕ, ◌<◌, inl, inr, Bool, true, false, ◌&&◌, ◌||◌, ◌==◌, List, [], ◌∷◌, length, Option, Some, slice_get, get_or, set, replicate, arith, ne_eqb}
 use Rattle.std.specs.List.{list_any}
 use Rattle.std.proofs.lemmas.Bool.{cases_eq, eq-eqb}
 use Rattle.std.proofs.lemmas.List.{length-set, get_or-set_same, get_or-set_other, get_or-replicate, length-replicate}
 use Rattle.std.proofs.lemmas.Option.{slice_get-get_or}
 use Rattle.std.proofs.Math.Bool.{or_assoc}
 use Rattle.path_classes.specs.Answers.{is_over, marked_one, marked, answers_of}
-use Rattle.path_classes.specs.Threads.{turns_at, goes_on, stage_takes, thread_says, says}
+use Rattle.path_classes.specs.Threads.{turns_at, goes_on, stage_takes, says}
 use Rattle.path_classes.specs.declared.lines.Turn.{Turn}
 use Rattle.path_classes.specs.declared.lines.Line.{Line}
 use Rattle.path_classes.specs.declared.threads.Stage.{Stage}

@@ -1,19 +1,18 @@
 -- The tables lead each path to the class in which the patterns answer as they do to it.
-use Rattle.std.proofs.Common.{◌≡◌, refl, sym, ap, ◌∙◌, subst, ℕ, zero, suc, ◌+◌, ◌<◌, ◌≤◌, ◌^◌, ◌↔◌, Bool, true, false, List, [], ◌∷◌, ◌++◌, length, map, Option, Some, None, slice_get, get_or, arith}
+use Rattle.std.proofs.Common.{◌≡◌, refl, sym, ap, ◌∙◌, subst, ℕ, zero, suc, ◌<◌, ◌≤◌, ◌^◌, ◌↔◌, Bool, false, List, [], ◌∷◌, ◌++◌, length, map, Option, Some, None, slice_get, get_or, arith}
 use Rattle.std.specs.List.{IsDistinct}
 use Rattle.std.proofs.lemmas.List.{append-nil, same_lists}
 use Rattle.std.proofs.lemmas.Option.{same_Some, slice_get_within, get_or_from_slice_get}
 use Rattle.aspath_text.specs.Items.{IsPath}
 use Rattle.aspath_text.specs.PathMatches.{path_matches}
 use Rattle.aspath_text.specs.declared.items.TokenPattern.{TokenPattern}
-use Rattle.path_classes.specs.Numbers.{count_below}
 use Rattle.path_classes.specs.Lines.{AreSound, line_view, views_from}
-use Rattle.path_classes.specs.Letters.{signature, CutsAll}
+use Rattle.path_classes.specs.Letters.{CutsAll}
 use Rattle.path_classes.specs.Threads.{says}
-use Rattle.path_classes.specs.States.{lines_say, Begins, Follows, LeadsTo, AreReached, IsStep, AreSteps, IsRow, AreRows}
+use Rattle.path_classes.specs.States.{lines_say, Begins, AreReached, IsStep, AreSteps, IsRow, AreRows}
 use Rattle.path_classes.specs.Answers.{answers_of}
 use Rattle.path_classes.specs.Sorting.{same_answers, AreClassed, IsMember, AreMembers}
-use Rattle.path_classes.specs.Walk.{at_or_zero, letter_in, state_behind, state_in, class_in, member_at, answer_at}
+use Rattle.path_classes.specs.Walk.{at_or_zero, letter_in, state_behind, state_in, class_in, member_at}
 use Rattle.path_classes.specs.Classes.{Alike, Tells}
 use Rattle.path_classes.specs.declared.classes.Classes.{Classes}
 use Rattle.path_classes.specs.declared.lines.Line.{Line}

@@ -6,13 +6,11 @@ use Rattle.std.proofs.lemmas.Bool.{cases_lt, le-ltb}
 use Rattle.std.proofs.lemmas.Bool.Decides.{nat_tests}
 use Rattle.std.proofs.lemmas.List.Elements.{Contains-append_left, Contains-append_right}
 use Rattle.std.proofs.lemmas.Option.{slice_get_within}
-use Rattle.aspath_text.specs.Items.{greatest, IsPath}
-use Rattle.path_classes.specs.Numbers.{count_below, count_up_to, HasAllOf}
-use Rattle.path_classes.specs.Lines.{turn_holds}
-use Rattle.path_classes.specs.Letters.{befores, turn_ends, line_ends, all_ends, turn_tests, signature, HasLetter, AreLetters, AllLettered, CutsAll}
+use Rattle.aspath_text.specs.Items.{greatest}
+use Rattle.path_classes.specs.Numbers.{count_below, count_up_to}
+use Rattle.path_classes.specs.Letters.{befores, turn_ends, line_ends, turn_tests, signature, HasLetter, AreLetters, CutsAll}
 use Rattle.path_classes.specs.declared.lines.Turn.{Turn}
 use Rattle.path_classes.specs.declared.lines.Line.{Line}
-use Rattle.path_classes.proofs.Keys.{at_place}
 use Rattle.path_classes.proofs.NumbersLaws.{one_if, count_cons}
 
 -- ---- lists of numbers

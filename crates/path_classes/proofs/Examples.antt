@@ -1,10 +1,9 @@
 -- Worked examples, which the checker computes: the patterns `_1_` and `^$` as lines, and where paths lead in them.
-use Rattle.std.proofs.Common.{◌≡◌, ℕ, true, false, List, [], ◌∷◌, Some, None, refl}
-use Rattle.aspath_text.specs.PathMatches.{front_fits, whole_path}
+use Rattle.std.proofs.Common.{◌≡◌, true, false, List, [], ◌∷◌, Some, None, refl}
 use Rattle.path_classes.specs.Numbers.{leasts_of, mosts_of, in_ends}
 use Rattle.path_classes.specs.Letters.{befores, all_ends, signature}
-use Rattle.path_classes.specs.Threads.{says, entered, next, starts_from}
-use Rattle.path_classes.specs.Tidy.{covers, tidied_from, tidied}
+use Rattle.path_classes.specs.Threads.{entered, next, starts_from}
+use Rattle.path_classes.specs.Tidy.{tidied_from, tidied}
 use Rattle.path_classes.specs.Answers.{marked, answers_of}
 use Rattle.path_classes.specs.declared.lines.Turn.{Turn}
 use Rattle.path_classes.specs.declared.lines.Line.{Line}

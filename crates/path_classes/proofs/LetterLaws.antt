@@ -1,8 +1,7 @@
 -- Letters: what is added, and that numbers of one letter are alike.
-use Rattle.std.proofs.Common.{◌≡◌, refl, sym, ap, ◌∙◌, subst, ℕ, zero, suc, ◌+◌, ◌-◌, ◌<◌, ◌≤◌, ◌^◌, ◌⊎◌, inl, inr, Bool, true, false, List, [], ◌∷◌, ◌++◌, length, drop, take, map, Some, None, slice_get, get_or, nat_lt, nat_le, arith, add-one, Contains}
-use Rattle.std.specs.List.{AllByRecursion}
-use Rattle.std.proofs.lemmas.List.{map-append, append-nil, length-map, length_push, length-drop, take_all}
-use Rattle.std.proofs.lemmas.Option.{same_Some, slice_get_within, slice_get-map}
+use Rattle.std.proofs.Common.{◌≡◌, refl, sym, ap, ◌∙◌, subst, ℕ, zero, suc, ◌-◌, ◌<◌, ◌≤◌, ◌^◌, Bool, true, false, List, [], ◌∷◌, ◌++◌, length, drop, take, map, Some, slice_get, get_or, arith, add-one}
+use Rattle.std.proofs.lemmas.List.{map-append, append-nil, length_push, length-drop, take_all}
+use Rattle.std.proofs.lemmas.Option.{same_Some}
 use Rattle.aspath_text.specs.Items.{IsPath}
 use Rattle.path_classes.specs.Letters.{signature, AreTold, HasLetter, LetterAdded, AreLetters, AllLettered}
 use Rattle.path_classes.specs.declared.lines.Line.{Line}

@@ -1,14 +1,12 @@
 -- Classes of states: each state is in the class of what the patterns answer to its paths.
-use Rattle.std.proofs.Common.{◌≡◌, refl, sym, ap, ◌∙◌, subst, ℕ, zero, suc, ◌+◌, ◌<◌, ◌≤◌, ◌⊎◌, inl, inr, Bool, true, false, ◌&&◌, ◌||◌, ◌==◌, List, [], ◌∷◌, ◌++◌, length, Some, None, slice_get, get_or, set, replicate, arith, eqb-true, lt-ltb}
-use Rattle.std.specs.Bool.{beq}
-use Rattle.std.specs.Cmp.Lexicographic.{pointwise}
-use Rattle.std.specs.List.{list_any, IsDistinct}
+use Rattle.std.proofs.Common.{◌≡◌, refl, sym, ap, ◌∙◌, subst, ℕ, ◌+◌, ◌<◌, inl, inr, Bool, true, false, List, [], ◌∷◌, ◌++◌, length, Some, slice_get, arith}
+use Rattle.std.specs.List.{IsDistinct}
 use Rattle.std.proofs.lemmas.Bool.{cases_order, true≢false}
-use Rattle.std.proofs.lemmas.List.{append-nil, length_push, length-set, get_or-set_same, get_or-set_other, get_or-replicate, length-replicate}
+use Rattle.std.proofs.lemmas.List.{length_push}
 use Rattle.std.proofs.lemmas.Map.Keys.{apart_from_distinct}
-use Rattle.std.proofs.lemmas.Option.{same_Some, slice_get_within, get_or_from_slice_get, slice_get-get_or}
-use Rattle.path_classes.specs.Answers.{is_over, marked_one, marked, answers_of}
-use Rattle.path_classes.specs.Sorting.{same_answers, IsClassFound, IsClassPut, AreClassed, IsMember, AreMembers, IsSorted, AllSorted}
+use Rattle.std.proofs.lemmas.Option.{same_Some, slice_get_within, get_or_from_slice_get}
+use Rattle.path_classes.specs.Answers.{answers_of}
+use Rattle.path_classes.specs.Sorting.{same_answers, HasClass, IsClassFound, IsClassPut, AddsState, AreClassed, IsMember, AreMembers, IsSorted}
 use Rattle.path_classes.specs.declared.answers.Sorting.{Sorting}
 use Rattle.path_classes.specs.declared.states.States.{States}
 use Rattle.path_classes.specs.declared.threads.Thread.{Thread}
@@ -33,8 +31,7 @@ class_put old mid new answers path class found keys members classes = record {
   grown = at found.grown;
 }
   where
-    at : ((mid.answers.keys ≡ old.answers.keys) × (mid.members ≡ old.members)) ⊎ ((mid.answers.keys ≡ old.answers.keys ++ answers ∷ []) × (mid.members ≡ old.members ++ path ∷ []))
-        → ((new.answers.keys ≡ old.answers.keys) × (new.members ≡ old.members)) ⊎ ((new.answers.keys ≡ old.answers.keys ++ answers ∷ []) × (new.members ≡ old.members ++ path ∷ []))
+    at : HasClass old mid answers path → HasClass old new answers path
     at (inl h) = inl (keys ∙ h.0, members ∙ h.1)
     at (inr h) = inr (keys ∙ h.0, members ∙ h.1)
 
@@ -60,8 +57,7 @@ members_push count states (b ∷ rows) (q ∷ ps) a p h member = (h.0, members_p
 
 -- one more state is in its class
 pub sorted_more : (count : ℕ) (states : States) (old new : Sorting) (place : ℕ) → place < length states.configs.keys → length states.configs.keys ≡ length states.paths
-    → ((threads : List Thread) (path : List ℕ) → slice_get states.configs.keys place ≡ Some threads → slice_get states.paths place ≡ Some path → IsClassPut old new (answers_of count threads) path)
-    → (IsDistinct same_answers old.answers.keys → IsDistinct same_answers new.answers.keys) → IsSorted count states old place → IsSorted count states new (place + 1)
+    → AddsState count states old new place → (IsDistinct same_answers old.answers.keys → IsDistinct same_answers new.answers.keys) → IsSorted count states old place → IsSorted count states new (place + 1)
 sorted_more count states old new place below same puts distinct before =
     let state = at_place states.configs.keys place below in
     let led = at_place states.paths place (omega (arith, same)) in
@@ -76,12 +72,12 @@ sorted_more count states old new place below same puts distinct before =
       distinct = distinct before.distinct;
     }
   where
-    classed : (a : List Bool) (p : List ℕ) → ((new.answers.keys ≡ old.answers.keys) × (new.members ≡ old.members)) ⊎ ((new.answers.keys ≡ old.answers.keys ++ a ∷ []) × (new.members ≡ old.members ++ p ∷ []))
+    classed : (a : List Bool) (p : List ℕ) → HasClass old new a p
         → AreClassed count new.answers.keys states.configs.keys old.classes
     classed a p (inl h) = subst (λ (rows : List (List Bool)). AreClassed count rows states.configs.keys old.classes) (sym h.0) before.classed
     classed a p (inr h) = subst (λ (rows : List (List Bool)). AreClassed count rows states.configs.keys old.classes) (sym h.0) (classed_more count old.answers.keys (a ∷ []) states.configs.keys old.classes before.classed)
 
-    members : (a : List Bool) (p : List ℕ) → ((new.answers.keys ≡ old.answers.keys) × (new.members ≡ old.members)) ⊎ ((new.answers.keys ≡ old.answers.keys ++ a ∷ []) × (new.members ≡ old.members ++ p ∷ []))
+    members : (a : List Bool) (p : List ℕ) → HasClass old new a p
         → IsMember count states a p → AreMembers count states new.answers.keys new.members
     members a p (inl h) member =
         subst (λ (rows : List (List Bool)). AreMembers count states rows new.members) (sym h.0) (subst (λ (ps : List (List ℕ)). AreMembers count states old.answers.keys ps) (sym h.1) before.members)

@@ -1,11 +1,10 @@
 -- States: each is reached by its path, and each step leads to the state that it should.
-use Rattle.std.proofs.Common.{◌≡◌, refl, sym, ap, ◌∙◌, subst, ℕ, zero, suc, ◌+◌, ◌-◌, ◌<◌, ◌≤◌, ◌^◌, ◌⊎◌, inl, inr, Bool, true, false, List, [], ◌∷◌, ◌++◌, length, drop, take, map, Option, Some, None, slice_get, get_or, arith, add-one}
-use Rattle.std.proofs.lemmas.List.{append_assoc, append-nil, length_push, length-append, length-drop}
-use Rattle.std.proofs.lemmas.Option.{same_Some, slice_get_within}
+use Rattle.std.proofs.Common.{◌≡◌, refl, sym, ap, ◌∙◌, subst, ℕ, zero, suc, ◌+◌, ◌<◌, ◌≤◌, ◌^◌, inl, inr, true, false, List, [], ◌∷◌, ◌++◌, length, drop, Option, Some, None, slice_get, get_or, arith, add-one}
+use Rattle.std.proofs.lemmas.List.{append_assoc, append-nil, length_push, length-drop}
+use Rattle.std.proofs.lemmas.Option.{same_Some}
 use Rattle.aspath_text.specs.Items.{IsPath}
 use Rattle.path_classes.specs.Lines.{AreSound}
-use Rattle.path_classes.specs.Threads.{says}
-use Rattle.path_classes.specs.States.{lines_say, Begins, Follows, LeadsTo, AreReached, Grew, IsStep, AreSteps, IsRow, AreRows, longer, IsStatePut, IsStepAdded, IsRowAdded, IsExplored, AllExplored}
+use Rattle.path_classes.specs.States.{lines_say, Begins, Follows, LeadsTo, AreReached, Grew, IsStep, AreSteps, IsRow, AreRows, longer, HasState, IsStatePut, IsStepAdded, IsState, AddsStep, AddsRow, IsRowAdded, IsExplored}
 use Rattle.path_classes.specs.declared.lines.Line.{Line}
 use Rattle.path_classes.specs.declared.states.States.{States}
 use Rattle.path_classes.specs.declared.threads.Thread.{Thread}
@@ -50,27 +49,27 @@ module _ (lines : List Line) where
 
   -- ---- a step
 
-  pub step_added : (old new : States) (ts us : List Thread) (from n to : ℕ) → n < 2 ^ 32 → slice_get old.configs.keys from ≡ Some ts → AreReached lines old.configs.keys old.paths
+  pub step_added : (old new : States) (ts us : List Thread) (from n to : ℕ) → n < 2 ^ 32 → IsState lines old from ts
       → Follows lines ts n us → IsStatePut old new us (longer old.paths from n) to → IsStepAdded lines old new ts n to
-  step_added old new ts us from n to below there reached follows put = record {
+  step_added old new ts us from n to below state follows put = record {
     grown = grown put.grown;
     rows = put.rows;
     reached = all put.grown;
     step = record { threads = us; there = put.there; follows = follows };
   }
     where
-      grown : ((new.configs.keys ≡ old.configs.keys) × (new.paths ≡ old.paths)) ⊎ ((new.configs.keys ≡ old.configs.keys ++ us ∷ []) × (new.paths ≡ old.paths ++ longer old.paths from n ∷ [])) → Grew old.configs.keys new.configs.keys
+      grown : HasState old new us (longer old.paths from n) → Grew old.configs.keys new.configs.keys
       grown (inl h) = ([], h.0 ∙ sym (append-nil old.configs.keys))
       grown (inr h) = (us ∷ [], h.0)
 
-      all : ((new.configs.keys ≡ old.configs.keys) × (new.paths ≡ old.paths)) ⊎ ((new.configs.keys ≡ old.configs.keys ++ us ∷ []) × (new.paths ≡ old.paths ++ longer old.paths from n ∷ [])) → AreReached lines new.configs.keys new.paths
+      all : HasState old new us (longer old.paths from n) → AreReached lines new.configs.keys new.paths
       all (inl h) =
-          subst (λ (cs : List (List Thread)). AreReached lines cs new.paths) (sym h.0) (subst (λ (ps : List (List ℕ)). AreReached lines old.configs.keys ps) (sym h.1) reached)
+          subst (λ (cs : List (List Thread)). AreReached lines cs new.paths) (sym h.0) (subst (λ (ps : List (List ℕ)). AreReached lines old.configs.keys ps) (sym h.1) state.reached)
       all (inr h) =
-          let from_path = reached_at old.configs.keys old.paths from ts reached there in
+          let from_path = reached_at old.configs.keys old.paths from ts state.reached state.there in
           let path : longer old.paths from n ≡ from_path.0 ++ n ∷ [] = ap (λ (o : Option (List ℕ)). elim o [ None ↦ n ∷ [] | Some p ↦ p ++ n ∷ [] ]) from_path.1 in
           let leads = leads_on from_path.0 ts us n below from_path.3 follows in
-          let more = reached_push old.configs.keys old.paths us (from_path.0 ++ n ∷ []) reached (path_push from_path.0 n from_path.2 below) leads in
+          let more = reached_push old.configs.keys old.paths us (from_path.0 ++ n ∷ []) state.reached (path_push from_path.0 n from_path.2 below) leads in
           subst (λ (cs : List (List Thread)). AreReached lines cs new.paths) (sym h.0)
           (subst (λ (ps : List (List ℕ)). AreReached lines (old.configs.keys ++ us ∷ []) ps) (sym (h.1 ∙ ap (λ (p : List ℕ). old.paths ++ p ∷ []) path)) more)
 
@@ -114,12 +113,11 @@ module _ (lines : List Line) where
     rest_is = ap (λ (xs : List ℕ). drop (length xs) numbers) (sym none);
   }
 
-  pub way_goes : (numbers row more rest : List ℕ) (old now new : States) (ts : List Thread) (from to : ℕ) → 1 ≤ length rest → slice_get old.configs.keys from ≡ Some ts → IsOnWay numbers old now ts row rest
-      → (slice_get now.configs.keys from ≡ Some ts → AreReached lines now.configs.keys now.paths → IsStepAdded lines now new ts (get_or rest 0 0) to) → more ≡ row ++ to ∷ []
-      → IsOnWay numbers old new ts more (rest_of rest)
-  way_goes numbers row more rest old now new ts from to long there way adds pushed =
-      let here : slice_get now.configs.keys from ≡ Some ts = ap (λ (cs : List (List Thread)). slice_get cs from) way.grown.1 ∙ get_left old.configs.keys way.grown.0 from ts there in
-      let added = adds here way.reached in
+  pub way_goes : (numbers row more rest : List ℕ) (old now new : States) (ts : List Thread) (from to : ℕ) → 1 ≤ length rest → IsState lines old from ts
+      → IsOnWay numbers old now ts row rest → AddsStep lines now new from (get_or rest 0 0) to → more ≡ row ++ to ∷ [] → IsOnWay numbers old new ts more (rest_of rest)
+  way_goes numbers row more rest old now new ts from to long state way adds pushed =
+      let here : slice_get now.configs.keys from ≡ Some ts = ap (λ (cs : List (List Thread)). slice_get cs from) way.grown.1 ∙ get_left old.configs.keys way.grown.0 from ts state.there in
+      let added = adds ts (record { there = here; sound = state.sound; reached = way.reached }) in
       let front : get_or rest 0 0 ∷ rest_of rest ≡ drop (length row) numbers = front_and_rest rest long ∙ way.rest_is in
       record {
         grown = grew_on old.configs.keys now.configs.keys new.configs.keys way.grown added.grown;
@@ -156,13 +154,12 @@ module _ (lines : List Line) where
   rows_push all numbers (b ∷ cs) (q ∷ rs) c r e h row = (h.0, rows_push all numbers cs rs c r e h.1 row)
 
   -- a row was added
-  pub explored_more : (numbers : List ℕ) (old mid new : States) (place : ℕ) (row : List ℕ)
-      → ((ts : List Thread) → slice_get old.configs.keys place ≡ Some ts → AreReached lines old.configs.keys old.paths → IsRowAdded lines numbers old mid ts row)
+  pub explored_more : (numbers : List ℕ) (old mid new : States) (place : ℕ) (row : List ℕ) → AreSound lines → AddsRow lines numbers old mid place row
       → new.configs.keys ≡ mid.configs.keys → new.paths ≡ mid.paths → new.next ≡ mid.next ++ row ∷ []
       → IsExplored lines numbers old place → place < length old.configs.keys → IsExplored lines numbers new (place + 1)
-  explored_more numbers old mid new place row adds keys paths next before below =
+  explored_more numbers old mid new place row sound adds keys paths next before below =
       let here = at_place old.configs.keys place below in
-      let added = adds here.0 here.1 before.reached in
+      let added = adds here.0 (record { there = here.1; sound = sound; reached = before.reached }) in
       let all : new.configs.keys ≡ old.configs.keys ++ added.grown.0 = keys ∙ added.grown.1 in
       let grown : Grew old.configs.keys new.configs.keys = (added.grown.0, all) in
       let old_rows : AreRows lines new.configs.keys numbers new.configs.keys old.next =

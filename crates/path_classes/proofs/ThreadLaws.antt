@@ -1,16 +1,16 @@
 -- Threads behind a number say of the rest of a path what they said before of the whole.
-use Rattle.std.proofs.Common.{◌≡◌, refl, sym, ap, ◌∙◌, subst, ℕ, zero, suc, ◌+◌, ◌-◌, ◌<◌, ◌≤◌, ◌^◌, inl, inr, Bool, true, false, ◌&&◌, ◌||◌, ◌==◌, nat_le, nat_lt, List, [], ◌∷◌, ◌++◌, length, drop, take, map, Option, Some, None, slice_get, is_none, arith, ltb-true, ltb-false, leb-true, le-leb, eqb-true}
-use Rattle.std.specs.List.{list_any, flat_map, AllByRecursion}
-use Rattle.std.proofs.lemmas.Bool.{and_parts, and_from, cases_Bool, lt-leb}
+use Rattle.std.proofs.Common.{◌≡◌, refl, sym, ap, ◌∙◌, subst, ℕ, zero, suc, ◌+◌, ◌-◌, ◌<◌, ◌≤◌, ◌^◌, Bool, true, false, ◌&&◌, ◌||◌, ◌==◌, nat_le, nat_lt, List, [], ◌∷◌, ◌++◌, length, drop, take, Option, Some, None, slice_get, is_none, arith, ltb-true, ltb-false, le-leb, eqb-true}
+use Rattle.std.specs.List.{flat_map, AllByRecursion}
+use Rattle.std.proofs.lemmas.Bool.{and_parts, lt-leb}
 use Rattle.std.proofs.lemmas.List.{drop_at, take-append-drop, length-append, append_assoc}
 use Rattle.std.proofs.lemmas.List.Folds.{list_any-append}
 use Rattle.std.proofs.lemmas.Option.{same_Some}
-use Rattle.aspath_text.specs.Items.{IsPath, Takes}
+use Rattle.aspath_text.specs.Items.{IsPath}
 use Rattle.aspath_text.specs.PathMatches.{no_number, has_room, one_fewer, front_fits, whole_path}
-use Rattle.path_classes.specs.Lines.{turn_holds, turn_takes, turns_take, IsSound, AreSoundTurns, AreSound, line_view}
+use Rattle.path_classes.specs.Lines.{turn_holds, turns_take, IsSound, AreSoundTurns, AreSound}
 use Rattle.path_classes.specs.Threads.{last_turns, turns_at, goes_on, stage_takes, thread_says, says, stays_always, stay, entered, after, taken_one, next_inside, next_stage, next, starts_from}
 use Rattle.path_classes.specs.Tidy.{SayTheSame}
-use Rattle.path_classes.specs.States.{view_says, lines_say, Begins, Follows}
+use Rattle.path_classes.specs.States.{lines_say, Begins, Follows}
 use Rattle.path_classes.specs.declared.lines.Turn.{Turn}
 use Rattle.path_classes.specs.declared.lines.Line.{Line}
 use Rattle.path_classes.specs.declared.threads.Inside.{Inside as At}

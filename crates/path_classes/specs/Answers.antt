@@ -1,5 +1,5 @@
 -- What patterns answer to the paths of a state.
-use Rattle.std.specs.Prelude.{◌≡◌, ℕ, Bool, true, false, List, [], ◌∷◌, Some, slice_get, slice_set, replicate}
+use Rattle.std.specs.Prelude.{ℕ, Bool, true, false, List, [], ◌∷◌, slice_set, replicate}
 use Rattle.path_classes.specs.declared.threads.Stage.{Stage}
 use Rattle.path_classes.specs.declared.threads.Stage.TheVariants.{Always, Ended, Inside}
 use Rattle.path_classes.specs.declared.threads.Thread.{Thread}

@@ -1,5 +1,5 @@
 -- Classes of paths in which patterns answer alike.
-use Rattle.std.specs.Prelude.{◌≡◌, ℕ, ◌<◌, Bool, List, Some, ◌↔◌, length, slice_get}
+use Rattle.std.specs.Prelude.{◌≡◌, ℕ, ◌<◌, List, Some, ◌↔◌, length, slice_get}
 use Rattle.aspath_text.specs.Items.{IsPath}
 use Rattle.aspath_text.specs.PathMatches.{path_matches}
 use Rattle.aspath_text.specs.declared.items.TokenPattern.{TokenPattern}

@@ -1,5 +1,5 @@
 -- Which numbers the items of patterns don't tell apart: those between which no range begins or ends.
-use Rattle.std.specs.Prelude.{◌≡◌, ℕ, zero, suc, Bool, true, false, ◌&&◌, ◌==◌, nat_le, nat_lt, List, [], ◌∷◌, ◌++◌, Contains}
+use Rattle.std.specs.Prelude.{ℕ, Bool, true, false, ◌&&◌, ◌==◌, nat_le, nat_lt, List, [], ◌∷◌, Contains}
 use Rattle.std.specs.List.{list_any, count_by}
 use Rattle.aspath_text.specs.Items.{greatest}
 use Rattle.aspath_text.specs.declared.items.NumberRange.{NumberRange}

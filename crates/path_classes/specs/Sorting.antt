@@ -12,18 +12,28 @@ use Rattle.path_classes.specs.declared.threads.Thread.{Thread}
 abbrev pub same_answers : List Bool → List Bool → Bool
 same_answers a b = pointwise beq a b
 
--- the class in which patterns answer this: it was there, or came last with its path
+-- there is a class with these answers: the classes are as before, or it came last with its path
+abbrev pub HasClass : Sorting → Sorting → List Bool → List ℕ → Type 0
+HasClass old new answers path =
+    ((new.answers.keys ≡ old.answers.keys) × (new.members ≡ old.members)) ⊎ ((new.answers.keys ≡ old.answers.keys ++ answers ∷ []) × (new.members ≡ old.members ++ path ∷ []))
+
+-- it stands at this place
 pub record IsClassFound (old new : Sorting) (answers : List Bool) (path : List ℕ) (class : ℕ) : Type 0 where
   pub there : slice_get new.answers.keys class ≡ Some answers
   pub classes : new.classes ≡ old.classes
-  pub grown : ((new.answers.keys ≡ old.answers.keys) × (new.members ≡ old.members)) ⊎ ((new.answers.keys ≡ old.answers.keys ++ answers ∷ []) × (new.members ≡ old.members ++ path ∷ []))
+  pub grown : HasClass old new answers path
 
 -- the next state was put into that class
 pub record IsClassPut (old new : Sorting) (answers : List Bool) (path : List ℕ) : Type 0 where
   pub class : ℕ
   pub there : slice_get new.answers.keys class ≡ Some answers
   pub classes : new.classes ≡ old.classes ++ class ∷ []
-  pub grown : ((new.answers.keys ≡ old.answers.keys) × (new.members ≡ old.members)) ⊎ ((new.answers.keys ≡ old.answers.keys ++ answers ∷ []) × (new.members ≡ old.members ++ path ∷ []))
+  pub grown : HasClass old new answers path
+
+-- the state at a place was put into its class
+abbrev pub AddsState : ℕ → States → Sorting → Sorting → ℕ → Type 0
+AddsState count states old new place =
+    (ts : List Thread) (path : List ℕ) → slice_get states.configs.keys place ≡ Some ts → slice_get states.paths place ≡ Some path → IsClassPut old new (answers_of count ts) path
 
 -- the classes of the first ones of these states
 abbrev pub AreClassed : ℕ → List (List Bool) → List (List Thread) → List ℕ → Type 0

@@ -1,9 +1,9 @@
 -- States: the threads of a path, and where numbers lead.
-use Rattle.std.specs.Prelude.{◌≡◌, ℕ, ◌≤◌, ◌⊎◌, Bool, true, false, ◌&&◌, ◌==◌, List, [], ◌∷◌, ◌++◌, Option, Some, None, map, length, slice_get}
+use Rattle.std.specs.Prelude.{◌≡◌, ℕ, ◌≤◌, ◌⊎◌, Bool, ◌&&◌, ◌==◌, List, [], ◌∷◌, ◌++◌, Some, None, map, length, slice_get}
 use Rattle.std.specs.List.{list_any}
 use Rattle.aspath_text.specs.Items.{IsPath, Takes}
 use Rattle.aspath_text.specs.PathMatches.{whole_path}
-use Rattle.path_classes.specs.Lines.{turn_takes, line_view}
+use Rattle.path_classes.specs.Lines.{line_view, AreSound}
 use Rattle.path_classes.specs.Threads.{says}
 use Rattle.path_classes.specs.declared.lines.Line.{Line}
 use Rattle.path_classes.specs.declared.threads.Thread.{Thread}
@@ -69,11 +69,16 @@ AreRows lines all numbers (c ∷ cs) (r ∷ rs) = IsRow lines all numbers c r ×
 abbrev pub longer : List (List ℕ) → ℕ → ℕ → List ℕ
 longer paths i n = elim (slice_get paths i) [ None ↦ n ∷ [] | Some p ↦ p ++ n ∷ [] ]
 
--- the state stands at the place: it was there, or came last with its path
+-- there is a state with these threads: the states are as before, or it came last with its path
+abbrev pub HasState : States → States → List Thread → List ℕ → Type 0
+HasState old new ts path =
+    ((new.configs.keys ≡ old.configs.keys) × (new.paths ≡ old.paths)) ⊎ ((new.configs.keys ≡ old.configs.keys ++ ts ∷ []) × (new.paths ≡ old.paths ++ path ∷ []))
+
+-- it stands at the place
 pub record IsStatePut (old new : States) (ts : List Thread) (path : List ℕ) (place : ℕ) : Type 0 where
   pub there : slice_get new.configs.keys place ≡ Some ts
   pub rows : new.next ≡ old.next
-  pub grown : ((new.configs.keys ≡ old.configs.keys) × (new.paths ≡ old.paths)) ⊎ ((new.configs.keys ≡ old.configs.keys ++ ts ∷ []) × (new.paths ≡ old.paths ++ path ∷ []))
+  pub grown : HasState old new ts path
 
 -- the state to which a number leads was put in
 pub record IsStepAdded (lines : List Line) (old new : States) (ts : List Thread) (n to : ℕ) : Type 0 where
@@ -88,6 +93,20 @@ pub record IsRowAdded (lines : List Line) (numbers : List ℕ) (old new : States
   pub rows : new.next ≡ old.next
   pub reached : AreReached lines new.configs.keys new.paths
   pub led : IsRow lines new.configs.keys numbers ts row
+
+-- these are the threads of the state at a place, of states that are all reached
+pub record IsState (lines : List Line) (states : States) (place : ℕ) (ts : List Thread) : Type 0 where
+  pub there : slice_get states.configs.keys place ≡ Some ts
+  pub sound : AreSound lines
+  pub reached : AreReached lines states.configs.keys states.paths
+
+-- a number leads from the state at a place to another one, which was put in
+abbrev pub AddsStep : List Line → States → States → ℕ → ℕ → ℕ → Type 0
+AddsStep lines old new from n to = (ts : List Thread) → IsState lines old from ts → IsStepAdded lines old new ts n to
+
+-- so do numbers
+abbrev pub AddsRow : List Line → List ℕ → States → States → ℕ → List ℕ → Type 0
+AddsRow lines numbers old new from row = (ts : List Thread) → IsState lines old from ts → IsRowAdded lines numbers old new ts row
 
 -- the states of paths, from the empty one, and the rows of the first ones
 pub record IsExplored (lines : List Line) (numbers : List ℕ) (states : States) (place : ℕ) : Type 0 where

@@ -1,5 +1,5 @@
 -- How the tables of classes lead a path to its class.
-use Rattle.std.specs.Prelude.{ℕ, Bool, false, List, [], ◌∷◌, Option, Some, None, slice_get, length}
+use Rattle.std.specs.Prelude.{ℕ, Bool, false, List, [], ◌∷◌, Some, None, slice_get}
 use Rattle.path_classes.specs.Numbers.{count_below}
 use Rattle.path_classes.specs.declared.classes.Classes.{Classes}
 

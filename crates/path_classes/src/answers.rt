@@ -2,8 +2,7 @@
 ghost use Rattle.std.specs.Prelude.{◌≡◌, ◌++◌, ◌∷◌, ◌<◌, ℕ, List, Bool, false, Some, IfOk, OnOk, length, slice_get};
 ghost use Rattle.std.specs.List.{IsDistinct};
 ghost use Rattle.path_classes.specs.Answers.{is_over, marked_one, marked, answers_of};
-ghost use Rattle.path_classes.specs.Sorting.{same_answers, IsClassFound, IsClassPut, AllSorted};
-ghost use Rattle.path_classes.specs.declared.threads.Thread.{Thread};
+ghost use Rattle.path_classes.specs.Sorting.{same_answers, IsClassFound, IsClassPut, AddsState, AllSorted};
 
 use crate::states::States;
 use crate::threads::{Stage, Thread};
@@ -89,7 +88,7 @@ impl Sorting {
         states: &States,
         place: usize,
     ) -> Result<(), Memory>
-        ensures put { OnOk result ((threads : List Thread) (path : List ℕ) → slice_get states.now.configs.keys place ≡ Some threads → slice_get states.now.paths place ≡ Some path → IsClassPut self.old self.new (answers_of count threads) path) }
+        ensures put { OnOk result (AddsState count states.now self.old self.new place) }
         ensures distinct { OnOk result (IsDistinct same_answers self.old.answers.keys → IsDistinct same_answers self.new.answers.keys) }
     {
         let Some(threads) = states.configs.get_index(place) else {

@@ -1,8 +1,7 @@
 // All states that paths lead to, each once, with the shortest path that leads to it.
 ghost use Rattle.std.specs.Prelude.{◌≡◌, ◌++◌, ◌∷◌, ◌+◌, ◌<◌, ℕ, List, Some, IfOk, OnOk, length, slice_get};
 ghost use Rattle.path_classes.specs.Lines.{AreSound};
-ghost use Rattle.path_classes.specs.declared.threads.Thread.{Thread};
-ghost use Rattle.path_classes.specs.States.{longer, AreReached, IsStatePut, IsStepAdded, IsRowAdded, IsExplored, AllExplored};
+ghost use Rattle.path_classes.specs.States.{longer, IsStatePut, AddsStep, AddsRow, IsExplored, AllExplored};
 
 use crate::configs::{start, step};
 use crate::lines::Line;
@@ -59,7 +58,7 @@ impl States {
         from: usize,
         number: u32,
     ) -> Result<usize, Memory>
-        ensures { IfOk result (λ to. (threads : List Thread) → slice_get self.old.configs.keys from ≡ Some threads → AreSound lines.now → AreReached lines.now self.old.configs.keys self.old.paths → IsStepAdded lines.now self.old self.new threads number to) }
+        ensures { IfOk result (AddsStep lines.now self.old self.new from number) }
     {
         let Some(threads) = self.configs.get_index(from) else {
             return Ok(0);
@@ -76,7 +75,7 @@ impl States {
         numbers: &[u32],
         from: usize,
     ) -> Result<Row<usize>, Memory>
-        ensures { IfOk result (λ row. (threads : List Thread) → slice_get self.old.configs.keys from ≡ Some threads → AreSound lines.now → AreReached lines.now self.old.configs.keys self.old.paths → IsRowAdded lines.now numbers.now self.old self.new threads row) }
+        ensures { IfOk result (AddsRow lines.now numbers.now self.old self.new from) }
     {
         let mut row = Row::new(alloc);
         let mut rest = numbers;

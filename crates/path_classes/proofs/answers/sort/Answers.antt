@@ -1,5 +1,5 @@
 use Rattle.std.proofs.Common.{arith}
-use Rattle.path_classes.proofs.SortingLaws.{sorted_more, sorted_first}
+use Rattle.path_classes.proofs.SortingLaws.{sorted_more}
 use Rattle.path_classes.proofs.answers.sort.Goals as goal
 
 pub loop-place-preserved : goal.loop-place-preserved

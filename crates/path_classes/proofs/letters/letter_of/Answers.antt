@@ -1,8 +1,8 @@
-use Rattle.std.proofs.Common.{◌∙◌, ap, sym, not, true, false, subst, arith}
+use Rattle.std.proofs.Common.{◌∙◌, sym, true, false}
 use Rattle.std.specs.Bool.{beq}
 use Rattle.std.specs.Cmp.Lexicographic.{pointwise}
 use Rattle.path_classes.proofs.Tells.{bits_tell, lists_tell}
-use Rattle.path_classes.proofs.Keys.{put, IsPut, stored_is}
+use Rattle.path_classes.proofs.Keys.{put, stored_is}
 use Rattle.path_classes.proofs.LetterLaws.{letter_added}
 use Rattle.path_classes.proofs.letters.letter_of.Goals as goal
 

@@ -1,5 +1,4 @@
-use Rattle.std.proofs.Common.{rules, sym, subst, ap, refl, length, drop, ◌∙◌}
-use Rattle.path_classes.proofs.LetterLaws.{OneMore, one_more, all_lettered}
+use Rattle.path_classes.proofs.LetterLaws.{one_more, all_lettered}
 use Rattle.path_classes.proofs.letters.letters_along.Goals as goal
 
 pub loop-rest-preserved : goal.loop-rest-preserved

@@ -1,5 +1,4 @@
-use Rattle.std.proofs.Common.{◌≡◌, ◌<◌, ◌^◌, ◌+◌, length, drop}
-use Rattle.std.specs.List.{All}
+use Rattle.std.proofs.Common.{◌≡◌, length, drop}
 use Rattle.path_classes.specs.Letters.{AreTold, AreLetters}
 use Rattle.path_classes.proofs.letters.letters_along.Given as goal
 

@@ -1,6 +1,4 @@
-use Rattle.std.proofs.Common.{◌≡◌, ◌++◌, ◌∷◌, length, map}
-use Rattle.std.specs.List.{flat_map}
-use Rattle.aspath_text.specs.Items.{greatest}
+use Rattle.std.proofs.Common.{◌≡◌, ◌++◌, length}
 use Rattle.path_classes.specs.Letters.{befores}
 use Rattle.path_classes.proofs.letters.push_befores.Given as goal
 

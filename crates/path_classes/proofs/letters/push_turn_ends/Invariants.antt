@@ -1,6 +1,5 @@
-use Rattle.std.proofs.Common.{◌≡◌, ◌++◌, ◌∷◌, length, map}
+use Rattle.std.proofs.Common.{◌≡◌, ◌++◌, length}
 use Rattle.std.specs.List.{flat_map}
-use Rattle.aspath_text.specs.Items.{greatest}
 use Rattle.path_classes.specs.Letters.{turn_ends}
 use Rattle.path_classes.proofs.letters.push_turn_ends.Given as goal
 

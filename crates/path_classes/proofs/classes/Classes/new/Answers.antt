@@ -1,9 +1,9 @@
-use Rattle.std.proofs.Common.{◌≤◌, sym, subst, refl, ap, ◌∙◌, ℕ, List, length, arith}
+use Rattle.std.proofs.Common.{sym, subst, ℕ, List, arith}
 use Rattle.path_classes.specs.Letters.{CutsAll}
 use Rattle.path_classes.specs.Lines.{AreSound}
 use Rattle.path_classes.specs.States.{AllExplored}
 use Rattle.path_classes.specs.declared.lines.Line.{Line}
-use Rattle.path_classes.proofs.ClassLaws.{IsMade, tells}
+use Rattle.path_classes.proofs.ClassLaws.{tells}
 use Rattle.path_classes.proofs.StateLaws.{as_many_paths}
 use Rattle.path_classes.proofs.classes.Classes.new.Goals as goal
 

@@ -1,4 +1,4 @@
-use Rattle.std.proofs.Common.{◌∙◌, ap, ℕ, List, nat_lt, rules, arith}
+use Rattle.std.proofs.Common.{◌∙◌, ap, ℕ, List, nat_lt, rules}
 use Rattle.std.proofs.lemmas.List.Sorted.{IsPartitionPoint-from_clause, IsPartitionedBy-ltb}
 use Rattle.path_classes.specs.Numbers.{count_below}
 use Rattle.path_classes.proofs.NumbersLaws.{point_counts}

@@ -1,4 +1,4 @@
-use Rattle.std.proofs.Common.{◌∙◌, ap, ℕ, List, nat_le, rules, arith}
+use Rattle.std.proofs.Common.{◌∙◌, ap, ℕ, List, nat_le, rules}
 use Rattle.std.proofs.lemmas.List.Sorted.{IsPartitionPoint-from_clause, IsPartitionedBy-leb}
 use Rattle.path_classes.specs.Numbers.{count_up_to}
 use Rattle.path_classes.proofs.NumbersLaws.{point_counts}
