@@ -303,7 +303,7 @@ end-policy
     Ok(())
 }
 
-/// Policies P1, P2 and so on, each but the last of which applies the next one twice.
+/// A chain of policies, each but the last of which applies the next one twice.
 fn chain(alloc: Global, length: u64) -> Result<String, Fail> {
     let mut text = String::new(alloc);
     for n in 1..length {
