@@ -2,18 +2,18 @@
 use Rattle.std.proofs.Common.{◌≡◌, refl, sym, ap, ◌∙◌, ℕ, ◌+◌, ◌-◌, ◌==◌, Bool, true, false, cond, ◌&&◌, nat_le, is_none, List, [], ◌∷◌, ◌++◌, map, Option, Some, None, arith, append_assoc, leb-true, eqb-true}
 use Rattle.std.proofs.lemmas.Bool.{and_parts}
 use Rattle.std.proofs.lemmas.List.{map-append}
-use Rattle.aspath_text.specs.Items.{Takes}
-use Rattle.aspath_text.specs.SamePaths.{SamePaths}
-use Rattle.aspath_text.specs.PathItems.{words_hold, any_numbers, set_takes, tail_takes, later_takes, pieces_takes, mark_takes, branch_takes}
-use Rattle.aspath_text.specs.IosForm.{PathStep, One, More, word_takes, step_takes, pieces_from, item_steps, takes_one, are_any, is_free, closes, steps_behind, right_behind, behind_first, branch_from}
-use Rattle.aspath_text.specs.WordItems.{IsWordItem, AreWordItems}
-use Rattle.aspath_text.specs.declared.word_item.WordItem.{WordItem}
-use Rattle.aspath_text.specs.declared.pattern.DigitWord.{DigitWord}
-use Rattle.aspath_text.specs.declared.pattern.DigitWord.TheVariants.{Any, Digits}
-use Rattle.aspath_text.specs.declared.pattern.Mark.{Mark}
-use Rattle.aspath_text.specs.declared.pattern.Mark.TheVariants.{Under}
-use Rattle.aspath_text.specs.declared.pattern.PieceSet.{PieceSet}
-use Rattle.aspath_text.proofs.SamePaths.{same_refl, same_trans, same_eq, same_behind, same_behind_all}
+use Rattle.path_patterns.specs.Items.{Takes}
+use Rattle.path_patterns.specs.SamePaths.{SamePaths}
+use Rattle.path_patterns.specs.PathItems.{words_hold, any_numbers, set_takes, tail_takes, later_takes, pieces_takes, mark_takes, branch_takes}
+use Rattle.path_patterns.specs.IosForm.{PathStep, One, More, word_takes, step_takes, pieces_from, item_steps, takes_one, are_any, is_free, closes, steps_behind, right_behind, behind_first, branch_from}
+use Rattle.path_patterns.specs.WordItems.{IsWordItem, AreWordItems}
+use Rattle.path_patterns.specs.declared.word_item.WordItem.{WordItem}
+use Rattle.path_patterns.specs.declared.pattern.DigitWord.{DigitWord}
+use Rattle.path_patterns.specs.declared.pattern.DigitWord.TheVariants.{Any, Digits}
+use Rattle.path_patterns.specs.declared.pattern.Mark.{Mark}
+use Rattle.path_patterns.specs.declared.pattern.Mark.TheVariants.{Under}
+use Rattle.path_patterns.specs.declared.pattern.PieceSet.{PieceSet}
+use Rattle.path_patterns.proofs.SamePaths.{same_refl, same_trans, same_eq, same_behind, same_behind_all}
 use Rattle.aspath_text.proofs.StepTakes.{steps_and, counts_behind, first_same}
 
 -- ---- free items

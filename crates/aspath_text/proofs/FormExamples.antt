@@ -1,12 +1,12 @@
 -- Texts of items, computed by the checker.
 use Rattle.std.proofs.Common.{◌≡◌, refl, ℕ, [], ◌∷◌, codes, Option, Some, None}
 use Rattle.aspath_text.specs.IosGrammar.{joined_by}
-use Rattle.aspath_text.specs.IosForm.{pieces_from, steps_behind, right_behind, branches_from, item_branches}
+use Rattle.path_patterns.specs.IosForm.{pieces_from, steps_behind, right_behind, branches_from, item_branches}
 use Rattle.aspath_text.specs.IosText.{first_in, ios_text, rest_text, starts_text, items_text}
-use Rattle.aspath_text.specs.RangeWords.{run_of}
-use Rattle.aspath_text.specs.declared.word_item.WordItem.{WordItem}
-use Rattle.aspath_text.specs.declared.pattern.DigitWord.{DigitWord}
-use Rattle.aspath_text.specs.declared.pattern.DigitWord.TheVariants.{Any, Digits}
+use Rattle.path_patterns.specs.RangeWords.{run_of}
+use Rattle.path_patterns.specs.declared.word_item.WordItem.{WordItem}
+use Rattle.path_patterns.specs.declared.pattern.DigitWord.{DigitWord}
+use Rattle.path_patterns.specs.declared.pattern.DigitWord.TheVariants.{Any, Digits}
 
 -- an item of one word
 abbrev item : DigitWord → ℕ → Option ℕ → WordItem

@@ -1,20 +1,20 @@
 -- The branches of items have the shape of a pattern, and their sets are runs.
 use Rattle.std.proofs.Common.{ℕ, ◌-◌, Bool, true, false, cond, ◌&&◌, List, [], ◌∷◌, ◌++◌, Option, Some, None, ◌≤◌, length, arith, replicate}
 use Rattle.std.specs.List.{AllByRecursion}
-use Rattle.aspath_text.specs.Shape.{AreDigitWords, IsTail, IsPiece, MarkFits, PiecesEnd, PiecesStart, IsBranch, IsShaped}
-use Rattle.aspath_text.specs.IosForm.{PathStep, One, More, pieces_from, further_steps, item_steps, takes_one, is_free, closes, steps_behind, right_behind, behind_first, branch_from, branches_from, anything, item_branches}
+use Rattle.path_patterns.specs.Shape.{AreDigitWords, IsTail, IsPiece, MarkFits, PiecesEnd, PiecesStart, IsBranch, IsShaped}
+use Rattle.path_patterns.specs.IosForm.{PathStep, One, More, pieces_from, further_steps, item_steps, takes_one, is_free, closes, steps_behind, right_behind, behind_first, branch_from, branches_from, anything, item_branches}
 use Rattle.aspath_text.specs.IosText.{IsRunTail, IsRunPiece, IsPrintable, IsRunBranch}
-use Rattle.aspath_text.specs.RangeWords.{AreRuns}
-use Rattle.aspath_text.specs.WordItems.{IsWordItem, AreWordItems}
-use Rattle.aspath_text.specs.declared.word_item.WordItem.{WordItem}
-use Rattle.aspath_text.specs.declared.pattern.DigitWord.{DigitWord}
-use Rattle.aspath_text.specs.declared.pattern.Mark.{Mark}
-use Rattle.aspath_text.specs.declared.pattern.Mark.TheVariants.{Anchor, Under}
-use Rattle.aspath_text.specs.declared.pattern.Piece.{Piece}
-use Rattle.aspath_text.specs.declared.pattern.Piece.TheVariants.{Set}
-use Rattle.aspath_text.specs.declared.pattern.PieceSet.{PieceSet}
-use Rattle.aspath_text.specs.declared.pattern.Repeat.TheVariants.{Maybe}
-use Rattle.aspath_text.proofs.Lists.{all_append, all_both, all_copies}
+use Rattle.path_patterns.specs.RangeWords.{AreRuns}
+use Rattle.path_patterns.specs.WordItems.{IsWordItem, AreWordItems}
+use Rattle.path_patterns.specs.declared.word_item.WordItem.{WordItem}
+use Rattle.path_patterns.specs.declared.pattern.DigitWord.{DigitWord}
+use Rattle.path_patterns.specs.declared.pattern.Mark.{Mark}
+use Rattle.path_patterns.specs.declared.pattern.Mark.TheVariants.{Anchor, Under}
+use Rattle.path_patterns.specs.declared.pattern.Piece.{Piece}
+use Rattle.path_patterns.specs.declared.pattern.Piece.TheVariants.{Set}
+use Rattle.path_patterns.specs.declared.pattern.PieceSet.{PieceSet}
+use Rattle.path_patterns.specs.declared.pattern.Repeat.TheVariants.{Maybe}
+use Rattle.path_patterns.proofs.Lists.{all_append, all_both, all_copies}
 
 -- words that can be written
 abbrev AreGood : List DigitWord → Type 0

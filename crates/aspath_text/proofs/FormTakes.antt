@@ -2,17 +2,17 @@
 use Rattle.std.proofs.Common.{◌≡◌, refl, sym, ap, subst, ◌∙◌, ℕ, ◌+◌, ◌-◌, ◌↔◌, Bool, true, false, cond, ◌&&◌, nat_le, List, [], ◌∷◌, ◌++◌, length, map, Option, arith, inl, inr, ◌⊎◌, leb-false}
 use Rattle.std.specs.List.{list_all}
 use Rattle.std.proofs.lemmas.Bool.{and_parts}
-use Rattle.aspath_text.specs.Items.{IsPath, Takes, AtMost, Taken}
-use Rattle.aspath_text.specs.SamePaths.{SamePaths, BranchesTake}
-use Rattle.aspath_text.specs.PathItems.{words_hold, any_numbers, later_takes, branch_takes}
-use Rattle.aspath_text.specs.IosForm.{word_takes, takes_one, is_free, branch_from, branches_from, anything, item_branches}
-use Rattle.aspath_text.specs.WordItems.{IsWordItem, AreWordItems}
-use Rattle.aspath_text.specs.declared.word_item.WordItem.{WordItem}
-use Rattle.aspath_text.specs.declared.pattern.IosBranch.{IosBranch}
-use Rattle.aspath_text.specs.declared.pattern.Mark.TheVariants.{Anchor, Under}
+use Rattle.path_patterns.specs.Items.{IsPath, Takes, AtMost, Taken}
+use Rattle.path_patterns.specs.SamePaths.{SamePaths, BranchesTake}
+use Rattle.path_patterns.specs.PathItems.{words_hold, any_numbers, later_takes, branch_takes}
+use Rattle.path_patterns.specs.IosForm.{word_takes, takes_one, is_free, branch_from, branches_from, anything, item_branches}
+use Rattle.path_patterns.specs.WordItems.{IsWordItem, AreWordItems}
+use Rattle.path_patterns.specs.declared.word_item.WordItem.{WordItem}
+use Rattle.path_patterns.specs.declared.pattern.IosBranch.{IosBranch}
+use Rattle.path_patterns.specs.declared.pattern.Mark.TheVariants.{Anchor, Under}
 use Rattle.aspath_text.proofs.BranchTakes.{free_takes, branch_with, branch_there}
-use Rattle.aspath_text.proofs.CountLaws.{zero_at_most}
-use Rattle.aspath_text.proofs.SamePaths.{same_trans, same_eq}
+use Rattle.path_patterns.proofs.CountLaws.{zero_at_most}
+use Rattle.path_patterns.proofs.SamePaths.{same_trans, same_eq}
 
 -- ---- an item that can be absent
 

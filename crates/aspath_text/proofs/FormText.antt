@@ -3,18 +3,18 @@ use Rattle.std.proofs.Common.{◌≡◌, refl, sym, ap, ap₂, ◌∙◌, ℕ, z
 use Rattle.std.proofs.lemmas.Grind.{flat_map-append}
 use Rattle.std.specs.List.{repeat as repeated}
 use Rattle.aspath_text.specs.IosGrammar.{joined_by, left_text, right_text}
-use Rattle.aspath_text.specs.IosForm.{PathStep, One, More, pieces_from, further_steps, item_steps, takes_one, is_free, closes, steps_behind, right_behind, behind_first, branch_from, branches_from, anything, item_branches}
+use Rattle.path_patterns.specs.IosForm.{PathStep, One, More, pieces_from, further_steps, item_steps, takes_one, is_free, closes, steps_behind, right_behind, behind_first, branch_from, branches_from, anything, item_branches}
 use Rattle.aspath_text.specs.IosText.{set_text, tail_text, piece_text, branch_text, ios_text, barred_text, further_text, item_text, rest_text, start_text, starts_text, items_text}
-use Rattle.aspath_text.specs.declared.word_item.WordItem.{WordItem}
-use Rattle.aspath_text.specs.declared.pattern.IosBranch.{IosBranch}
-use Rattle.aspath_text.specs.declared.pattern.DigitWord.{DigitWord}
-use Rattle.aspath_text.specs.declared.pattern.Mark.{Mark}
-use Rattle.aspath_text.specs.declared.pattern.Mark.TheVariants.{Anchor, Under}
-use Rattle.aspath_text.specs.declared.pattern.Piece.{Piece}
-use Rattle.aspath_text.specs.declared.pattern.Piece.TheVariants.{Set}
-use Rattle.aspath_text.specs.declared.pattern.PieceSet.{PieceSet}
-use Rattle.aspath_text.specs.declared.pattern.Tail.{Tail}
-use Rattle.aspath_text.specs.declared.pattern.Repeat.TheVariants.{Star, Maybe}
+use Rattle.path_patterns.specs.declared.word_item.WordItem.{WordItem}
+use Rattle.path_patterns.specs.declared.pattern.IosBranch.{IosBranch}
+use Rattle.path_patterns.specs.declared.pattern.DigitWord.{DigitWord}
+use Rattle.path_patterns.specs.declared.pattern.Mark.{Mark}
+use Rattle.path_patterns.specs.declared.pattern.Mark.TheVariants.{Anchor, Under}
+use Rattle.path_patterns.specs.declared.pattern.Piece.{Piece}
+use Rattle.path_patterns.specs.declared.pattern.Piece.TheVariants.{Set}
+use Rattle.path_patterns.specs.declared.pattern.PieceSet.{PieceSet}
+use Rattle.path_patterns.specs.declared.pattern.Tail.{Tail}
+use Rattle.path_patterns.specs.declared.pattern.Repeat.TheVariants.{Star, Maybe}
 use Rattle.aspath_text.proofs.JoinedLaws.{joined_behind}
 
 -- the text of branches is what stands behind the first bar

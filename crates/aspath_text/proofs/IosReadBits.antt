@@ -10,7 +10,7 @@ use Rattle.std.proofs.lemmas.Bool.{cases_lt, le-leb, lt-leb, eqb-true, eq-eqb}
 use Rattle.std.proofs.lemmas.Nat.{or_lt}
 use Rattle.std.proofs.lemmas.Nat.Bits.{bit_at_or, bit_at-lt, bit_at-zero, bit_at_mask_inside, bit_at_mask_above, bit_at_mask_below, same_from_bits_below}
 use Rattle.aspath_text.specs.IosGrammar.{DigitRun, IsSetOf}
-use Rattle.aspath_text.specs.declared.pattern.DigitSet.{DigitSet}
+use Rattle.path_patterns.specs.declared.pattern.DigitSet.{DigitSet}
 
 -- the digit of a number is in it
 abbrev pub bit_is : ℕ → ℕ → Bool

@@ -11,7 +11,7 @@ use Rattle.route_types.proofs.Spelled.{ap2}
 use Rattle.policy_text.proofs.Phrases.{when_found}
 use Rattle.aspath_text.specs.IosGrammar.{joined_by, DigitRun, IsSetOf, SpellsRun, SpellsClass}
 use Rattle.aspath_text.specs.IosRead.{depth_behind, onto_first, parts_by, cut_at, run_in, runs_after, class_in}
-use Rattle.aspath_text.specs.declared.pattern.DigitSet.{DigitSet}
+use Rattle.path_patterns.specs.declared.pattern.DigitSet.{DigitSet}
 use Rattle.aspath_text.proofs.IosReadBits.{all_bits, is_set_of}
 use Rattle.aspath_text.proofs.IosReadCuts.{parts_split}
 use Rattle.aspath_text.proofs.IosReadShaped.{runs_are_digits}

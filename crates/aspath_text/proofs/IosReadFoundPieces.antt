@@ -10,18 +10,18 @@ use Rattle.policy_text.specs.Phrases.{each}
 use Rattle.policy_text.proofs.Phrases.{each_found, when_found}
 use Rattle.aspath_text.specs.IosGrammar.{joined_by, SpellsTail, SpellsPiece, SpellsBranch, SpellsPattern, left_text, right_text}
 use Rattle.aspath_text.specs.IosRead.{depth_behind, onto_first, parts_by, set_in, tail_in, tailed, tailed_in, piece_in, left_in, right_in, mark_fits, pieces_fit, pieces_end, pieces_start, between, pieces_in, branch_in, ios_pattern_in}
-use Rattle.aspath_text.specs.Shape.{IsPiece, MarkFits, PiecesFit, PiecesEnd, PiecesStart}
-use Rattle.aspath_text.specs.declared.pattern.IosBranch.{IosBranch}
-use Rattle.aspath_text.specs.declared.pattern.IosBranch.TheVariants.{EmptyPath}
-use Rattle.aspath_text.specs.declared.pattern.Mark.{Mark}
-use Rattle.aspath_text.specs.declared.pattern.Mark.TheVariants.{Anchor, Under, Nothing}
-use Rattle.aspath_text.specs.declared.pattern.Piece.{Piece}
-use Rattle.aspath_text.specs.declared.pattern.Piece.TheVariants.{Anything, Set}
-use Rattle.aspath_text.specs.declared.pattern.Tail.{Tail}
+use Rattle.path_patterns.specs.Shape.{IsPiece, MarkFits, PiecesFit, PiecesEnd, PiecesStart}
+use Rattle.path_patterns.specs.declared.pattern.IosBranch.{IosBranch}
+use Rattle.path_patterns.specs.declared.pattern.IosBranch.TheVariants.{EmptyPath}
+use Rattle.path_patterns.specs.declared.pattern.Mark.{Mark}
+use Rattle.path_patterns.specs.declared.pattern.Mark.TheVariants.{Anchor, Under, Nothing}
+use Rattle.path_patterns.specs.declared.pattern.Piece.{Piece}
+use Rattle.path_patterns.specs.declared.pattern.Piece.TheVariants.{Anything, Set}
+use Rattle.path_patterns.specs.declared.pattern.Tail.{Tail}
 use Rattle.aspath_text.proofs.IosReadCuts.{parts_split}
 use Rattle.aspath_text.proofs.IosReadFound.{joined_onto, joined_parts}
 use Rattle.aspath_text.proofs.IosReadFoundWords.{many, set_found, tail_found}
-use Rattle.aspath_text.proofs.Lists.{same_bytes}
+use Rattle.path_patterns.proofs.Lists.{same_bytes}
 use Rattle.aspath_text.proofs.IosReadShaped.{each_all, piece_shaped}
 
 -- ---- pieces

@@ -8,15 +8,15 @@ use Rattle.route_types.specs.Words.{◌>>=◌, is_digit, when, parts_at}
 use Rattle.route_types.proofs.Numbers.{bind_found, some_is, digit_range}
 use Rattle.route_types.proofs.Spelled.{ap2, parts_at_found}
 use Rattle.policy_text.proofs.Phrases.{each_found, when_found}
-use Rattle.aspath_text.proofs.Lists.{same_bytes}
+use Rattle.path_patterns.proofs.Lists.{same_bytes}
 use Rattle.aspath_text.specs.IosGrammar.{SpellsDigitSet, SpellsWord, SpellsSet, SpellsTail, repeat_sign}
 use Rattle.aspath_text.specs.IosRead.{parts_by, cut_at, class_in, set_at, sets_in, digits_in, word_in, grouped, lone, set_in, repeat_in, repeated, tail_in}
-use Rattle.aspath_text.specs.declared.pattern.DigitWord.{DigitWord}
-use Rattle.aspath_text.specs.declared.pattern.DigitWord.TheVariants.{Any, Digits}
-use Rattle.aspath_text.specs.declared.pattern.DigitSet.{DigitSet}
-use Rattle.aspath_text.specs.declared.pattern.Tail.{Tail}
-use Rattle.aspath_text.specs.declared.pattern.Repeat.{Repeat}
-use Rattle.aspath_text.specs.declared.pattern.Repeat.TheVariants.{Star, Plus, Maybe}
+use Rattle.path_patterns.specs.declared.pattern.DigitWord.{DigitWord}
+use Rattle.path_patterns.specs.declared.pattern.DigitWord.TheVariants.{Any, Digits}
+use Rattle.path_patterns.specs.declared.pattern.DigitSet.{DigitSet}
+use Rattle.path_patterns.specs.declared.pattern.Tail.{Tail}
+use Rattle.path_patterns.specs.declared.pattern.Repeat.{Repeat}
+use Rattle.path_patterns.specs.declared.pattern.Repeat.TheVariants.{Star, Plus, Maybe}
 use Rattle.aspath_text.proofs.IosReadCuts.{parts_split}
 use Rattle.aspath_text.proofs.IosReadFound.{joined_parts, cut_found, class_found, some_parts}
 

@@ -10,16 +10,16 @@ use Rattle.policy_text.specs.Phrases.{each}
 use Rattle.policy_text.proofs.Phrases.{each_spelled}
 use Rattle.aspath_text.specs.IosGrammar.{joined_by, SpellsPiece, SpellsBranch, SpellsPattern, left_text, right_text}
 use Rattle.aspath_text.specs.IosRead.{parts_by, set_at, sets_in, word_in, set_in, piece_in, left_in, right_by, right_in, mark_fits, pieces_fit, pieces_end, pieces_start, between, pieces_in, branch_in, ios_pattern_in}
-use Rattle.aspath_text.specs.Shape.{MarkFits, PiecesFit, PiecesEnd, PiecesStart}
-use Rattle.aspath_text.specs.declared.pattern.IosBranch.{IosBranch}
-use Rattle.aspath_text.specs.declared.pattern.IosBranch.TheVariants.{EmptyPath, Pieces}
-use Rattle.aspath_text.specs.declared.pattern.Mark.{Mark}
-use Rattle.aspath_text.specs.declared.pattern.Mark.TheVariants.{Anchor, Under, Nothing}
-use Rattle.aspath_text.specs.declared.pattern.PathPieces.{PathPieces}
-use Rattle.aspath_text.specs.declared.pattern.Piece.{Piece}
-use Rattle.aspath_text.specs.declared.pattern.Piece.TheVariants.{Anything, Set}
+use Rattle.path_patterns.specs.Shape.{MarkFits, PiecesFit, PiecesEnd, PiecesStart}
+use Rattle.path_patterns.specs.declared.pattern.IosBranch.{IosBranch}
+use Rattle.path_patterns.specs.declared.pattern.IosBranch.TheVariants.{EmptyPath, Pieces}
+use Rattle.path_patterns.specs.declared.pattern.Mark.{Mark}
+use Rattle.path_patterns.specs.declared.pattern.Mark.TheVariants.{Anchor, Under, Nothing}
+use Rattle.path_patterns.specs.declared.pattern.PathPieces.{PathPieces}
+use Rattle.path_patterns.specs.declared.pattern.Piece.{Piece}
+use Rattle.path_patterns.specs.declared.pattern.Piece.TheVariants.{Anything, Set}
 use Rattle.aspath_text.proofs.IosReadFoundPieces.{led, joined_led}
-use Rattle.aspath_text.proofs.Lists.{same_bytes}
+use Rattle.path_patterns.proofs.Lists.{same_bytes}
 use Rattle.aspath_text.proofs.IosReadOnlyPieces.{parts_of_joined, as_many, piece_only}
 use Rattle.aspath_text.proofs.IosReadPassed.{each_text, piece_passes}
 use Rattle.aspath_text.proofs.IosReadPasses.{Passes, AllPass, passes_append, plain_passes, under_cuts, bar_cuts}

@@ -8,15 +8,15 @@ use Rattle.policy_text.specs.Phrases.{each}
 use Rattle.policy_text.proofs.Phrases.{each_spelled}
 use Rattle.aspath_text.specs.IosGrammar.{joined_by, SpellsWord, SpellsSet, SpellsTail, SpellsPiece, repeat_sign}
 use Rattle.aspath_text.specs.IosRead.{depth_behind, onto_first, parts_by, cut_at, set_at, sets_in, word_in, lone, grouped, set_in, repeat_in, repeated, tail_in, tailed, tailed_in, piece_in}
-use Rattle.aspath_text.specs.declared.pattern.DigitWord.{DigitWord}
-use Rattle.aspath_text.specs.declared.pattern.Piece.{Piece}
-use Rattle.aspath_text.specs.declared.pattern.Piece.TheVariants.{Anything, Set}
-use Rattle.aspath_text.specs.declared.pattern.PieceSet.{PieceSet}
-use Rattle.aspath_text.specs.declared.pattern.Tail.{Tail}
-use Rattle.aspath_text.specs.declared.pattern.Repeat.{Repeat}
-use Rattle.aspath_text.specs.declared.pattern.Repeat.TheVariants.{Star, Plus, Maybe}
+use Rattle.path_patterns.specs.declared.pattern.DigitWord.{DigitWord}
+use Rattle.path_patterns.specs.declared.pattern.Piece.{Piece}
+use Rattle.path_patterns.specs.declared.pattern.Piece.TheVariants.{Anything, Set}
+use Rattle.path_patterns.specs.declared.pattern.PieceSet.{PieceSet}
+use Rattle.path_patterns.specs.declared.pattern.Tail.{Tail}
+use Rattle.path_patterns.specs.declared.pattern.Repeat.{Repeat}
+use Rattle.path_patterns.specs.declared.pattern.Repeat.TheVariants.{Star, Plus, Maybe}
 use Rattle.aspath_text.proofs.IosReadFoundPieces.{led, joined_led}
-use Rattle.aspath_text.proofs.Lists.{same_bytes}
+use Rattle.path_patterns.proofs.Lists.{same_bytes}
 use Rattle.aspath_text.proofs.IosReadOnlyWords.{word_only}
 use Rattle.aspath_text.proofs.IosReadPassed.{each_text, words_pass, set_passes, set_inner, are_led, tails_pass_each}
 use Rattle.aspath_text.proofs.IosReadPasses.{Passes, AllPass, AllPlain, is_plain, plain_is, plain_passes, parts_spelled, cut_spelled, word_plain, bar_cuts, closing_cuts}

@@ -10,11 +10,11 @@ use Rattle.route_types.proofs.Numbers.{some_is, when_true}
 use Rattle.route_types.proofs.Spelled.{ap2, parts_at_behind}
 use Rattle.aspath_text.specs.IosGrammar.{DigitRun, SpellsRun, SpellsClass, SpellsDigitSet, SpellsWord}
 use Rattle.aspath_text.specs.IosRead.{run_in, runs_after, class_in, set_at, sets_in, digits_in, word_in}
-use Rattle.aspath_text.specs.declared.pattern.DigitWord.{DigitWord}
-use Rattle.aspath_text.specs.declared.pattern.DigitWord.TheVariants.{Any, Digits}
-use Rattle.aspath_text.specs.declared.pattern.DigitSet.{DigitSet}
+use Rattle.path_patterns.specs.declared.pattern.DigitWord.{DigitWord}
+use Rattle.path_patterns.specs.declared.pattern.DigitWord.TheVariants.{Any, Digits}
+use Rattle.path_patterns.specs.declared.pattern.DigitSet.{DigitSet}
 use Rattle.aspath_text.proofs.IosReadBits.{all_bits, run_bits, set_of_is}
-use Rattle.aspath_text.proofs.Lists.{same_bytes}
+use Rattle.path_patterns.proofs.Lists.{same_bytes}
 use Rattle.aspath_text.proofs.IosReadShaped.{runs_are_digits}
 
 -- ---- classes

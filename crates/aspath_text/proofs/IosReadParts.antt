@@ -7,9 +7,9 @@ use Rattle.aspath_text.specs.IosWalk.{part_length, parts_behind, set_length}
 use Rattle.aspath_text.specs.Printing.{Reads}
 use Rattle.aspath_text.specs.declared.fault.PatternFault.{PatternFault}
 use Rattle.aspath_text.specs.declared.fault.PatternFault.TheVariants.{NotShaped, Memory}
-use Rattle.aspath_text.specs.declared.pattern.DigitWord.{DigitWord}
-use Rattle.aspath_text.specs.declared.pattern.Piece.TheVariants.{Set}
-use Rattle.aspath_text.specs.declared.pattern.Tail.{Tail}
+use Rattle.path_patterns.specs.declared.pattern.DigitWord.{DigitWord}
+use Rattle.path_patterns.specs.declared.pattern.Piece.TheVariants.{Set}
+use Rattle.path_patterns.specs.declared.pattern.Tail.{Tail}
 use Rattle.aspath_text.proofs.IosReadCuts.{split_of, split_more, parts_split, whole}
 
 -- a fault of a part is a fault of the whole

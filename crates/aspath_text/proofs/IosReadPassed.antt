@@ -5,12 +5,12 @@ use Rattle.std.specs.List.{concat, AllByRecursion}
 use Rattle.route_types.specs.RouteText.{Each}
 use Rattle.aspath_text.specs.IosGrammar.{joined_by, SpellsWord, SpellsSet, SpellsTail, SpellsPiece, repeat_sign}
 use Rattle.aspath_text.specs.IosRead.{depth_behind}
-use Rattle.aspath_text.specs.declared.pattern.DigitWord.{DigitWord}
-use Rattle.aspath_text.specs.declared.pattern.Piece.{Piece}
-use Rattle.aspath_text.specs.declared.pattern.Piece.TheVariants.{Anything, Set}
-use Rattle.aspath_text.specs.declared.pattern.Tail.{Tail}
-use Rattle.aspath_text.specs.declared.pattern.Repeat.{Repeat}
-use Rattle.aspath_text.specs.declared.pattern.Repeat.TheVariants.{Star, Plus, Maybe}
+use Rattle.path_patterns.specs.declared.pattern.DigitWord.{DigitWord}
+use Rattle.path_patterns.specs.declared.pattern.Piece.{Piece}
+use Rattle.path_patterns.specs.declared.pattern.Piece.TheVariants.{Anything, Set}
+use Rattle.path_patterns.specs.declared.pattern.Tail.{Tail}
+use Rattle.path_patterns.specs.declared.pattern.Repeat.{Repeat}
+use Rattle.path_patterns.specs.declared.pattern.Repeat.TheVariants.{Star, Plus, Maybe}
 use Rattle.aspath_text.proofs.IosReadFoundPieces.{led}
 use Rattle.aspath_text.proofs.IosReadPasses.{Passes, AllPass, Cuts, AllPlain, passes_append, plain_passes, inside_test, word_plain, opening_cuts}
 

@@ -8,9 +8,9 @@ use Rattle.route_types.specs.RouteText.{Each}
 use Rattle.route_types.specs.Words.{◌>>=◌}
 use Rattle.aspath_text.specs.IosGrammar.{DigitRun, SpellsRun, SpellsClass, SpellsDigitSet, SpellsWord}
 use Rattle.aspath_text.specs.IosRead.{depth_behind, onto_first, parts_by, cut_at}
-use Rattle.aspath_text.specs.declared.pattern.DigitWord.{DigitWord}
-use Rattle.aspath_text.specs.declared.pattern.DigitWord.TheVariants.{Any, Digits}
-use Rattle.aspath_text.specs.declared.pattern.DigitSet.{DigitSet}
+use Rattle.path_patterns.specs.declared.pattern.DigitWord.{DigitWord}
+use Rattle.path_patterns.specs.declared.pattern.DigitWord.TheVariants.{Any, Digits}
+use Rattle.path_patterns.specs.declared.pattern.DigitSet.{DigitSet}
 use Rattle.aspath_text.proofs.IosReadFoundPieces.{led}
 
 -- no such byte stands outside parentheses, from one depth to another

@@ -6,7 +6,7 @@ use Rattle.std.proofs.lemmas.List.{append-nil}
 use Rattle.route_types.specs.Words.{◌>>=◌}
 use Rattle.aspath_text.specs.IosRead.{set_at, sets_in}
 use Rattle.aspath_text.specs.IosWalk.{sets_onto}
-use Rattle.aspath_text.specs.declared.pattern.DigitSet.{DigitSet}
+use Rattle.path_patterns.specs.declared.pattern.DigitSet.{DigitSet}
 
 no_items : {A : Type 0} (xs : List A) → length xs ≡ 0 → xs ≡ []
 no_items [] e = refl

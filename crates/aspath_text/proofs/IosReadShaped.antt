@@ -5,15 +5,15 @@ use Rattle.std.proofs.Math.Pow.{pow_mono, pow_pos}
 use Rattle.std.proofs.lemmas.Bool.{le-leb}
 use Rattle.route_types.specs.RouteText.{Each}
 use Rattle.aspath_text.specs.IosGrammar.{DigitRun, SpellsRun, SpellsClass, SpellsDigitSet, SpellsWord, SpellsSet, SpellsTail, SpellsPiece, SpellsBranch, SpellsPattern}
-use Rattle.aspath_text.specs.Shape.{IsDigitSet, IsDigitWord, AreDigitWords, IsTail, IsPiece, IsBranch, IsShaped}
-use Rattle.aspath_text.specs.declared.pattern.IosBranch.{IosBranch}
-use Rattle.aspath_text.specs.declared.pattern.IosBranch.TheVariants.{EmptyPath, Pieces}
-use Rattle.aspath_text.specs.declared.pattern.Piece.{Piece}
-use Rattle.aspath_text.specs.declared.pattern.Piece.TheVariants.{Anything, Set}
-use Rattle.aspath_text.specs.declared.pattern.DigitWord.{DigitWord}
-use Rattle.aspath_text.specs.declared.pattern.DigitWord.TheVariants.{Any, Digits}
-use Rattle.aspath_text.specs.declared.pattern.DigitSet.{DigitSet}
-use Rattle.aspath_text.specs.declared.pattern.Tail.{Tail}
+use Rattle.path_patterns.specs.Shape.{IsDigitSet, IsDigitWord, AreDigitWords, IsTail, IsPiece, IsBranch, IsShaped}
+use Rattle.path_patterns.specs.declared.pattern.IosBranch.{IosBranch}
+use Rattle.path_patterns.specs.declared.pattern.IosBranch.TheVariants.{EmptyPath, Pieces}
+use Rattle.path_patterns.specs.declared.pattern.Piece.{Piece}
+use Rattle.path_patterns.specs.declared.pattern.Piece.TheVariants.{Anything, Set}
+use Rattle.path_patterns.specs.declared.pattern.DigitWord.{DigitWord}
+use Rattle.path_patterns.specs.declared.pattern.DigitWord.TheVariants.{Any, Digits}
+use Rattle.path_patterns.specs.declared.pattern.DigitSet.{DigitSet}
+use Rattle.path_patterns.specs.declared.pattern.Tail.{Tail}
 use Rattle.aspath_text.proofs.IosReadBits.{AreDigits, in_run, some_bit}
 
 -- what follows of each pair holds of each value

@@ -3,10 +3,10 @@ use Rattle.std.proofs.Common.{◌≡◌, ℕ, List, Some, Err}
 use Rattle.aspath_text.specs.IosGrammar.{SpellsPattern}
 use Rattle.aspath_text.specs.IosRead.{ios_pattern_in}
 use Rattle.aspath_text.specs.Printing.{Reads}
-use Rattle.aspath_text.specs.Shape.{IsShaped}
+use Rattle.path_patterns.specs.Shape.{IsShaped}
 use Rattle.aspath_text.specs.declared.fault.PatternFault.{PatternFault}
 use Rattle.aspath_text.specs.declared.fault.PatternFault.TheVariants.{NotShaped, Memory}
-use Rattle.aspath_text.specs.declared.pattern.IosBranch.{IosBranch}
+use Rattle.path_patterns.specs.declared.pattern.IosBranch.{IosBranch}
 use Rattle.aspath_text.proofs.IosReadFoundPieces.{pattern_found}
 use Rattle.aspath_text.proofs.IosReadOnly.{pattern_only}
 use Rattle.aspath_text.proofs.IosReadShaped.{is_shaped}

@@ -2,8 +2,8 @@
 use Rattle.std.proofs.Common.{◌≡◌, sym, ap, ◌∙◌, ℕ, List, ◌∷◌, ◌++◌, map, flat_map, append_assoc}
 use Rattle.aspath_text.specs.IosGrammar.{joined_by}
 use Rattle.aspath_text.specs.JunosText.{range_text, ranges_text, item_text}
-use Rattle.aspath_text.specs.declared.items.NumberRange.{NumberRange}
-use Rattle.aspath_text.specs.declared.items.TokenItem.{TokenItem}
+use Rattle.path_patterns.specs.declared.items.NumberRange.{NumberRange}
+use Rattle.path_patterns.specs.declared.items.TokenItem.{TokenItem}
 use Rattle.aspath_text.proofs.JoinedLaws.{joined_behind}
 
 -- a text, and others behind it, each behind the byte, are joined by the byte

@@ -10,10 +10,10 @@ use Rattle.route_types.specs.RouteText.{Each}
 use Rattle.route_types.proofs.Numbers.{decimal_avoids}
 use Rattle.std.proofs.lemmas.Fmt.{decimal_nonempty}
 use Rattle.aspath_text.specs.IosGrammar.{joined_by}
-use Rattle.aspath_text.specs.Items.{greatest}
+use Rattle.path_patterns.specs.Items.{greatest}
 use Rattle.aspath_text.specs.JunosGrammar.{AreBlanks, SpellsRange, SpellsMember}
 use Rattle.aspath_text.specs.JunosRead.{is_sign}
-use Rattle.aspath_text.specs.declared.items.NumberRange.{NumberRange}
+use Rattle.path_patterns.specs.declared.items.NumberRange.{NumberRange}
 
 -- ---- tests that hold for no digit
 

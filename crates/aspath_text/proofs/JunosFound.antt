@@ -11,13 +11,13 @@ use Rattle.route_types.proofs.Numbers.{some_is, bind_found, number_in_found}
 use Rattle.route_types.proofs.Spelled.{parts_at_found, ap2}
 use Rattle.policy_text.specs.Phrases.{each, Each as Agree}
 use Rattle.policy_text.proofs.Phrases.{when_found, each_found}
-use Rattle.aspath_text.proofs.Lists.{same_bytes}
+use Rattle.path_patterns.proofs.Lists.{same_bytes}
 use Rattle.aspath_text.specs.IosGrammar.{joined_by}
-use Rattle.aspath_text.specs.Items.{greatest}
+use Rattle.path_patterns.specs.Items.{greatest}
 use Rattle.aspath_text.specs.JunosGrammar.{AreBlanks, SpellsRange, SpellsMember, SpellsCount, SpellsItem, AreSpaced, SpellsItems}
 use Rattle.aspath_text.specs.JunosRead.{ends_in, range_in, behind_blanks, member_in, members_of, count_of, upper_in, bounds_in, braced_in, count_in, plain_in, group_in, item_in, parts_items, in_group, starts_blank, items_of, items_in, is_sign}
-use Rattle.aspath_text.specs.declared.items.NumberRange.{NumberRange}
-use Rattle.aspath_text.specs.declared.items.TokenItem.{TokenItem}
+use Rattle.path_patterns.specs.declared.items.NumberRange.{NumberRange}
+use Rattle.path_patterns.specs.declared.items.TokenItem.{TokenItem}
 use Rattle.aspath_text.specs.declared.junos_words.Count.{Count}
 use Rattle.aspath_text.proofs.JunosCut.{texts_step, blanks_step, items_behind, items_step, blank_is, behind_blank, one_blank}
 

@@ -13,12 +13,12 @@ use Rattle.policy_text.proofs.Phrases.{each_spelled}
 use Rattle.aspath_text.specs.IosGrammar.{joined_by}
 use Rattle.aspath_text.specs.JunosGrammar.{AreBlanks, SpellsMember, SpellsSet, SpellsItem, AreSpaced, SpellsItems}
 use Rattle.aspath_text.specs.JunosRead.{range_in, behind_blanks, member_in, members_of, count_of, count_in, is_sign, item_of, plain_in, group_in, item_in, parts_items, in_group, starts_blank, items_of, items_in}
-use Rattle.aspath_text.specs.declared.items.NumberRange.{NumberRange}
-use Rattle.aspath_text.specs.declared.items.TokenItem.{TokenItem}
+use Rattle.path_patterns.specs.declared.items.NumberRange.{NumberRange}
+use Rattle.path_patterns.specs.declared.items.TokenItem.{TokenItem}
 use Rattle.aspath_text.specs.declared.junos_words.Count.{Count}
 use Rattle.aspath_text.proofs.JunosCut.{members_parted, members_alone, items_step}
 use Rattle.aspath_text.proofs.JunosFound.{items_some, starts_empty}
-use Rattle.aspath_text.proofs.Lists.{same_bytes}
+use Rattle.path_patterns.proofs.Lists.{same_bytes}
 use Rattle.aspath_text.proofs.JunosBytes.{NoDigit, below_digits, above_digits, is_paren, paren_digit, is_break, break_digit, sign_digit, range_avoids, range_some, Spares, member_avoids, joined_avoids, place_behind}
 use Rattle.aspath_text.proofs.JunosWords.{parts_none, range_only, over_blanks, no_blank, member_only, count_only, count_stops, count_breaks}
 

@@ -1,11 +1,11 @@
 -- The text of the items that are written is a pattern of the same paths, and matches some path.
 use Rattle.std.proofs.Common.{◌≡◌, refl, sym, subst, ℕ, ◌↔◌, List, [], ◌∷◌, Option, Some, map, inl, inr}
-use Rattle.aspath_text.specs.Items.{Taken, takes_of, Matches}
-use Rattle.aspath_text.specs.JunosItems.{Writes}
+use Rattle.path_patterns.specs.Items.{Taken, takes_of, Matches}
+use Rattle.path_patterns.specs.JunosItems.{Writes}
 use Rattle.aspath_text.specs.JunosText.{items_text}
 use Rattle.aspath_text.specs.Printing.{PrintsJunos}
-use Rattle.aspath_text.specs.declared.items.TokenBranch.{TokenBranch}
-use Rattle.aspath_text.specs.declared.items.TokenItem.{TokenItem}
+use Rattle.path_patterns.specs.declared.items.TokenBranch.{TokenBranch}
+use Rattle.path_patterns.specs.declared.items.TokenItem.{TokenItem}
 use Rattle.aspath_text.proofs.JunosSpelled.{items_spelled, some_path}
 
 alone : (js is : List TokenItem) (path : List ℕ) → (Taken (map takes_of js) path ↔ Taken (map takes_of is) path) → Matches (record { branches = record { items = js } ∷ [] }) path ↔ Taken (map takes_of is) path

@@ -4,9 +4,9 @@ use Rattle.route_types.specs.Words.{◌>>=◌}
 use Rattle.route_types.proofs.Numbers.{some_is, bind_found}
 use Rattle.aspath_text.specs.JunosGrammar.{SpellsJunos}
 use Rattle.aspath_text.specs.JunosRead.{items_in, junos_pattern_in}
-use Rattle.aspath_text.specs.declared.items.TokenItem.{TokenItem}
-use Rattle.aspath_text.specs.declared.items.TokenBranch.{TokenBranch}
-use Rattle.aspath_text.specs.declared.items.TokenPattern.{TokenPattern}
+use Rattle.path_patterns.specs.declared.items.TokenItem.{TokenItem}
+use Rattle.path_patterns.specs.declared.items.TokenBranch.{TokenBranch}
+use Rattle.path_patterns.specs.declared.items.TokenPattern.{TokenPattern}
 use Rattle.aspath_text.proofs.JunosFound.{items_found}
 use Rattle.aspath_text.proofs.JunosItems.{items_only}
 

@@ -2,14 +2,14 @@
 use Rattle.std.proofs.Common.{◌≡◌, refl, sym, ◌∙◌, ℕ, ◌≤◌, Bool, true, false, ◌&&◌, ◌==◌, if◌then◌else◌, List, [], ◌∷◌, ◌++◌, length, map, Option, Some, None, codes, decimal, arith, inl, inr, append-nil}
 use Rattle.std.specs.List.{list_any, AllByRecursion}
 use Rattle.std.proofs.lemmas.Bool.{and_parts, eqb-true, or_left}
-use Rattle.aspath_text.specs.Items.{Takes, AtMost, in_range, takes_of, greatest}
+use Rattle.path_patterns.specs.Items.{Takes, AtMost, in_range, takes_of, greatest}
 use Rattle.aspath_text.specs.JunosGrammar.{SpellsRange, SpellsMember, SpellsSet, SpellsCount, SpellsItem, SpellsItems}
-use Rattle.aspath_text.specs.JunosItems.{HasNumbers, IsSmallBound, IsWritable, item_of}
+use Rattle.path_patterns.specs.JunosItems.{HasNumbers, IsSmallBound, IsWritable, item_of}
 use Rattle.aspath_text.specs.JunosText.{range_text, set_text, exact_text, between_text, count_text, item_text, items_text}
-use Rattle.aspath_text.specs.declared.items.NumberRange.{NumberRange}
-use Rattle.aspath_text.specs.declared.items.TokenItem.{TokenItem}
-use Rattle.aspath_text.proofs.MergedLaws.{holds_least}
-use Rattle.aspath_text.proofs.Lists.{each_spelled}
+use Rattle.path_patterns.specs.declared.items.NumberRange.{NumberRange}
+use Rattle.path_patterns.specs.declared.items.TokenItem.{TokenItem}
+use Rattle.path_patterns.proofs.MergedLaws.{holds_least}
+use Rattle.path_patterns.proofs.Lists.{each_spelled}
 use Rattle.aspath_text.proofs.JoinedLaws.{joined_spaced}
 use Rattle.aspath_text.proofs.SomePath.{SomeTaken, none_taken, more_taken}
 

@@ -9,13 +9,13 @@ use Rattle.route_types.specs.Words.{parts_at, number_in, when, ◌>>=◌}
 use Rattle.route_types.proofs.Numbers.{number_in_spelled, when_true}
 use Rattle.route_types.proofs.Spelled.{parts_at_behind, ap2}
 use Rattle.std.proofs.lemmas.Fmt.{decimal_nonempty}
-use Rattle.aspath_text.specs.Items.{greatest}
+use Rattle.path_patterns.specs.Items.{greatest}
 use Rattle.aspath_text.specs.JunosGrammar.{AreBlanks, SpellsRange, SpellsMember, SpellsCount}
 use Rattle.aspath_text.specs.JunosRead.{ends_in, range_in, behind_blanks, range_before, member_in, count_of, upper_in, bounds_in, braced_in, count_in, is_sign}
-use Rattle.aspath_text.specs.declared.items.NumberRange.{NumberRange}
+use Rattle.path_patterns.specs.declared.items.NumberRange.{NumberRange}
 use Rattle.aspath_text.specs.declared.junos_words.Count.{Count}
 use Rattle.aspath_text.proofs.JunosCut.{parts_step, blanks_step, one_blank}
-use Rattle.aspath_text.proofs.Lists.{same_bytes}
+use Rattle.path_patterns.proofs.Lists.{same_bytes}
 use Rattle.aspath_text.proofs.JunosBytes.{NoDigit, below_digits, above_digits, blank_digit, is_break, break_digit, small, number_avoids, dash_avoids, range_avoids, range_some, append_avoids, stops, place_behind}
 
 -- ---- ranges

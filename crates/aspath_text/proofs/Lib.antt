@@ -1,20 +1,4 @@
-pub mod Lists
-pub mod FindsTurns
-pub mod FindsFound
-mod SearchExamples
 mod ReadExamples
-mod ItemsExamples
-pub mod PathText
-pub mod SpansNumbers
-pub mod SpansTails
-pub mod PiecesTaken
-pub mod TakenPieces
-pub mod FoundTaken
-pub mod DigitSets
-pub mod PieceRows
-pub mod RowSteps
-pub mod RowLaws
-pub mod RowsFind
 pub mod JunosCut
 pub mod Positions
 pub mod JunosFound
@@ -23,9 +7,6 @@ pub mod JunosWords
 pub mod JunosItems
 pub mod JunosRead
 mod FormExamples
-pub mod CountLaws
-pub mod TakesLaws
-pub mod SamePaths
 pub mod StepTakes
 pub mod BranchTakes
 pub mod FormTakes
@@ -35,25 +16,11 @@ pub mod RunText
 pub mod TextSpelled
 pub mod FormText
 pub mod SetText
-pub mod MergedLaws
 pub mod JoinedLaws
 pub mod JunosSpelled
-pub mod JunosItemsLaws
 pub mod JunosBehind
-pub mod JunosAdds
 pub mod JunosPrinted
-pub mod DigitSteps
-pub mod DigitRangesJoined
-pub mod DigitRangesSpread
-pub mod DigitRangesWords
-pub mod SameTakes
-pub mod TokensFound
-pub mod ItemWords
 pub mod Written
-pub mod RangeWordsRuns
-pub mod RangeWordsBlock
-pub mod RangeWordsGrown
-pub mod DigitExamples
 pub mod IosReadCuts
 pub mod IosReadRuns
 pub mod IosReadSets
@@ -69,4 +36,3 @@ pub mod IosReadPassed
 pub mod IosReadOnlyWords
 pub mod IosReadOnlyPieces
 pub mod IosReadOnly
-pub mod PathMatches

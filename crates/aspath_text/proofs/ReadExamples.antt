@@ -7,14 +7,14 @@ use Rattle.aspath_text.specs.IosGrammar.{SpellsPattern}
 use Rattle.aspath_text.specs.IosRead.{parts_by, cut_at, runs_after, set_at, sets_in, word_in, set_in, tail_in, piece_in, pieces_end, between, branch_in, ios_pattern_in}
 use Rattle.aspath_text.specs.JunosGrammar.{SpellsJunos}
 use Rattle.aspath_text.specs.JunosRead.{range_in, behind_blanks, member_in, members_of, count_in, item_in, items_of, items_in, junos_pattern_in}
-use Rattle.aspath_text.specs.declared.items.TokenPattern.{TokenPattern}
-use Rattle.aspath_text.specs.declared.pattern.IosBranch.{IosBranch}
-use Rattle.aspath_text.specs.declared.pattern.IosBranch.TheVariants.{EmptyPath, Pieces}
-use Rattle.aspath_text.specs.declared.pattern.Mark.TheVariants.{Anchor, Under, Nothing}
-use Rattle.aspath_text.specs.declared.pattern.Piece.TheVariants.{Anything, Set}
-use Rattle.aspath_text.specs.declared.pattern.DigitWord.{DigitWord}
-use Rattle.aspath_text.specs.declared.pattern.DigitWord.TheVariants.{Any, Digits}
-use Rattle.aspath_text.specs.declared.pattern.Repeat.TheVariants.{Maybe}
+use Rattle.path_patterns.specs.declared.items.TokenPattern.{TokenPattern}
+use Rattle.path_patterns.specs.declared.pattern.IosBranch.{IosBranch}
+use Rattle.path_patterns.specs.declared.pattern.IosBranch.TheVariants.{EmptyPath, Pieces}
+use Rattle.path_patterns.specs.declared.pattern.Mark.TheVariants.{Anchor, Under, Nothing}
+use Rattle.path_patterns.specs.declared.pattern.Piece.TheVariants.{Anything, Set}
+use Rattle.path_patterns.specs.declared.pattern.DigitWord.{DigitWord}
+use Rattle.path_patterns.specs.declared.pattern.DigitWord.TheVariants.{Any, Digits}
+use Rattle.path_patterns.specs.declared.pattern.Repeat.TheVariants.{Maybe}
 use Rattle.aspath_text.proofs.IosReadSpelled.{ios_pattern_found}
 use Rattle.aspath_text.proofs.JunosRead.{junos_pattern_found}
 

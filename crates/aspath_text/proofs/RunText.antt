@@ -4,9 +4,9 @@ use Rattle.std.proofs.Math.Bool.{or-false}
 use Rattle.std.proofs.lemmas.Bool.{agree_below, agree_below_at, and_parts, le-leb, eqb-true}
 use Rattle.aspath_text.specs.IosGrammar.{SpellsClass, SpellsDigitSet}
 use Rattle.aspath_text.specs.IosText.{first_in, least_digit, greatest_digit, run_text, digit_set_text}
-use Rattle.aspath_text.specs.RangeWords.{run_of, IsRun}
-use Rattle.aspath_text.specs.declared.pattern.DigitSet.{DigitSet}
-use Rattle.aspath_text.proofs.RangeWordsRuns.{run_digits, run_set, run_is}
+use Rattle.path_patterns.specs.RangeWords.{run_of, IsRun}
+use Rattle.path_patterns.specs.declared.pattern.DigitSet.{DigitSet}
+use Rattle.path_patterns.proofs.RangeWordsRuns.{run_digits, run_set, run_is}
 
 -- ---- the ends of a run
 

@@ -3,7 +3,7 @@ use Rattle.std.proofs.Common.{◌≡◌, refl, sym, ap, ◌∙◌, ℕ, zero, su
 use Rattle.std.specs.List.{repeat as repeated}
 use Rattle.aspath_text.specs.IosGrammar.{joined_by}
 use Rattle.aspath_text.specs.IosText.{word_text, set_text}
-use Rattle.aspath_text.specs.declared.pattern.DigitWord.{DigitWord}
+use Rattle.path_patterns.specs.declared.pattern.DigitWord.{DigitWord}
 use Rattle.aspath_text.proofs.JoinedLaws.{joined_behind}
 
 pub no_text : set_text [] ≡ codes "()"

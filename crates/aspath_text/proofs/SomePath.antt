@@ -3,8 +3,8 @@ use Rattle.std.proofs.Common.{◌≡◌, refl, sym, subst, ℕ, zero, suc, ◌^�
 use Rattle.std.specs.List.{list_all}
 use Rattle.std.proofs.lemmas.Bool.{and_from}
 use Rattle.std.proofs.lemmas.List.{length-replicate}
-use Rattle.aspath_text.specs.Items.{IsPath, Takes, AtMost, Taken}
-use Rattle.aspath_text.proofs.Lists.{all_append, all_copies}
+use Rattle.path_patterns.specs.Items.{IsPath, Takes, AtMost, Taken}
+use Rattle.path_patterns.proofs.Lists.{all_append, all_copies}
 
 -- some path is taken
 abbrev pub SomeTaken : List Takes → Type 0

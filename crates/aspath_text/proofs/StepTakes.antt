@@ -1,15 +1,15 @@
 -- What the steps of an item take: as many numbers as the item.
 use Rattle.std.proofs.Common.{◌≡◌, refl, ap, ℕ, zero, suc, ◌+◌, ◌-◌, List, ◌∷◌, ◌++◌, map, Option, Some, None, option_map, arith, replicate}
-use Rattle.aspath_text.specs.Items.{Takes, AtMost}
-use Rattle.aspath_text.specs.Counts.{both_most}
-use Rattle.aspath_text.specs.SamePaths.{SamePaths}
-use Rattle.aspath_text.specs.PathItems.{words_hold, set_takes}
-use Rattle.aspath_text.specs.IosForm.{PathStep, One, More, word_takes, step_takes, further_steps, item_steps, behind_first}
-use Rattle.aspath_text.specs.declared.word_item.WordItem.{WordItem}
-use Rattle.aspath_text.specs.declared.pattern.DigitWord.{DigitWord}
-use Rattle.aspath_text.specs.declared.pattern.Repeat.TheVariants.{Maybe}
-use Rattle.aspath_text.proofs.Lists.{map_before}
-use Rattle.aspath_text.proofs.SamePaths.{same_sym, same_trans, same_eq, same_behind, same_joined, same_nothing}
+use Rattle.path_patterns.specs.Items.{Takes, AtMost}
+use Rattle.path_patterns.specs.Counts.{both_most}
+use Rattle.path_patterns.specs.SamePaths.{SamePaths}
+use Rattle.path_patterns.specs.PathItems.{words_hold, set_takes}
+use Rattle.path_patterns.specs.IosForm.{PathStep, One, More, word_takes, step_takes, further_steps, item_steps, behind_first}
+use Rattle.path_patterns.specs.declared.word_item.WordItem.{WordItem}
+use Rattle.path_patterns.specs.declared.pattern.DigitWord.{DigitWord}
+use Rattle.path_patterns.specs.declared.pattern.Repeat.TheVariants.{Maybe}
+use Rattle.path_patterns.proofs.Lists.{map_before}
+use Rattle.path_patterns.proofs.SamePaths.{same_sym, same_trans, same_eq, same_behind, same_joined, same_nothing}
 
 -- ---- copies of a step
 

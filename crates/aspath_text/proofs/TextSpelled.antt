@@ -3,18 +3,18 @@ use Rattle.std.proofs.Common.{◌≡◌, refl, sym, ◌∙◌, ap, ℕ, ◌≤�
 use Rattle.std.specs.List.{concat, AllByRecursion}
 use Rattle.std.proofs.lemmas.List.Concat.{concat_is}
 use Rattle.std.proofs.lemmas.List.Folds.{flat_map-map}
-use Rattle.aspath_text.specs.Shape.{IsDigitWord, AreDigitWords, IsTail, IsPiece, IsBranch}
+use Rattle.path_patterns.specs.Shape.{IsDigitWord, AreDigitWords, IsTail, IsPiece, IsBranch}
 use Rattle.aspath_text.specs.IosGrammar.{SpellsDigitSet, SpellsWord, SpellsSet, SpellsTail, SpellsPiece, SpellsBranch, SpellsPattern}
 use Rattle.aspath_text.specs.IosText.{digit_set_text, word_text, set_text, tail_text, piece_text, branch_text, ios_text, IsRunTail, IsRunPiece, IsRunBranch, IsPrintable}
-use Rattle.aspath_text.specs.RangeWords.{IsRun, IsRunWord, AreRuns}
-use Rattle.aspath_text.specs.declared.pattern.IosBranch.{IosBranch}
-use Rattle.aspath_text.specs.declared.pattern.IosBranch.TheVariants.{EmptyPath, Pieces}
-use Rattle.aspath_text.specs.declared.pattern.Piece.{Piece}
-use Rattle.aspath_text.specs.declared.pattern.Piece.TheVariants.{Anything, Set}
-use Rattle.aspath_text.specs.declared.pattern.DigitWord.{DigitWord}
-use Rattle.aspath_text.specs.declared.pattern.DigitWord.TheVariants.{Any, Digits}
-use Rattle.aspath_text.specs.declared.pattern.Tail.{Tail}
-use Rattle.aspath_text.proofs.Lists.{each_spelled, each_of_both}
+use Rattle.path_patterns.specs.RangeWords.{IsRun, IsRunWord, AreRuns}
+use Rattle.path_patterns.specs.declared.pattern.IosBranch.{IosBranch}
+use Rattle.path_patterns.specs.declared.pattern.IosBranch.TheVariants.{EmptyPath, Pieces}
+use Rattle.path_patterns.specs.declared.pattern.Piece.{Piece}
+use Rattle.path_patterns.specs.declared.pattern.Piece.TheVariants.{Anything, Set}
+use Rattle.path_patterns.specs.declared.pattern.DigitWord.{DigitWord}
+use Rattle.path_patterns.specs.declared.pattern.DigitWord.TheVariants.{Any, Digits}
+use Rattle.path_patterns.specs.declared.pattern.Tail.{Tail}
+use Rattle.path_patterns.proofs.Lists.{each_spelled, each_of_both}
 use Rattle.aspath_text.proofs.RunText.{digit_set_spelled}
 
 -- the texts of some things, one after the other

@@ -2,25 +2,25 @@
 use Rattle.std.proofs.Common.{◌≡◌, refl, sym, ap, subst, ◌∙◌, ℕ, ◌≤◌, ◌↔◌, List, [], ◌∷◌, ◌++◌, length, map, Option, Some, None, Ok, Err, IfOk, Result, arith, inl, inr, ◌⊎◌, append_assoc, append-nil}
 use Rattle.std.specs.List.{AllByRecursion}
 use Rattle.std.proofs.lemmas.Grind.{flat_map-append}
-use Rattle.aspath_text.specs.Items.{IsPath, SomeOf, Taken, BranchMatches}
-use Rattle.aspath_text.specs.PathItems.{branch_takes}
-use Rattle.aspath_text.specs.Shape.{IsBranch, IsShaped}
+use Rattle.path_patterns.specs.Items.{IsPath, SomeOf, Taken, BranchMatches}
+use Rattle.path_patterns.specs.PathItems.{branch_takes}
+use Rattle.path_patterns.specs.Shape.{IsBranch, IsShaped}
 use Rattle.aspath_text.specs.IosGrammar.{SpellsPattern}
 use Rattle.aspath_text.specs.Printing.{PrintsIos}
-use Rattle.aspath_text.specs.SamePaths.{BranchesTake}
-use Rattle.aspath_text.specs.IosForm.{word_takes, item_branches}
+use Rattle.path_patterns.specs.SamePaths.{BranchesTake}
+use Rattle.path_patterns.specs.IosForm.{word_takes, item_branches}
 use Rattle.aspath_text.specs.IosText.{branch_text, ios_text, barred_text, items_text, IsRunBranch, IsPrintable}
-use Rattle.aspath_text.specs.WordItems.{AreWordItems, BecomeWords}
+use Rattle.path_patterns.specs.WordItems.{AreWordItems, BecomeWords}
 use Rattle.aspath_text.specs.Written.{SomeMatches, IsWritten, AddsBranch, behind_first_byte}
-use Rattle.aspath_text.specs.declared.items.TokenBranch.{TokenBranch}
-use Rattle.aspath_text.specs.declared.items.TokenItem.{TokenItem}
-use Rattle.aspath_text.specs.declared.items.TokenPattern.{TokenPattern}
-use Rattle.aspath_text.specs.declared.word_item.WordItem.{WordItem}
-use Rattle.aspath_text.specs.declared.pattern.IosBranch.{IosBranch}
-use Rattle.aspath_text.proofs.FoundTaken.{found_taken, taken_found}
+use Rattle.path_patterns.specs.declared.items.TokenBranch.{TokenBranch}
+use Rattle.path_patterns.specs.declared.items.TokenItem.{TokenItem}
+use Rattle.path_patterns.specs.declared.items.TokenPattern.{TokenPattern}
+use Rattle.path_patterns.specs.declared.word_item.WordItem.{WordItem}
+use Rattle.path_patterns.specs.declared.pattern.IosBranch.{IosBranch}
+use Rattle.path_patterns.proofs.FoundTaken.{found_taken, taken_found}
 use Rattle.aspath_text.proofs.SomePath.{SomeTaken, none_taken, more_taken}
 use Rattle.aspath_text.proofs.FormTakes.{form_taken}
-use Rattle.aspath_text.proofs.Lists.{all_append, all_both}
+use Rattle.path_patterns.proofs.Lists.{all_append, all_both}
 use Rattle.aspath_text.proofs.FormShape.{form_printable}
 use Rattle.aspath_text.proofs.FormText.{items_text_is, behind_bar}
 use Rattle.aspath_text.proofs.TextSpelled.{pattern_spelled}

@@ -2,20 +2,20 @@
 use Rattle.std.specs.Prelude.{◌≡◌, ℕ, ◌+◌, ◌^◌, ◌<◌, ◌≤◌, nat_le, ◌&&◌, List, [], ◌∷◌, ◌++◌, length, codes, ◌⊎◌}
 use Rattle.std.specs.List.{concat, list_any}
 use Rattle.route_types.specs.RouteText.{Each}
-use Rattle.aspath_text.specs.Shape.{IsBranch}
-use Rattle.aspath_text.specs.PathItems.{has_digit}
-use Rattle.aspath_text.specs.declared.pattern.IosBranch.{IosBranch}
-use Rattle.aspath_text.specs.declared.pattern.IosBranch.TheVariants.{EmptyPath, Pieces}
-use Rattle.aspath_text.specs.declared.pattern.Mark.{Mark}
-use Rattle.aspath_text.specs.declared.pattern.Mark.TheVariants.{Anchor, Under, Nothing}
-use Rattle.aspath_text.specs.declared.pattern.Piece.{Piece}
-use Rattle.aspath_text.specs.declared.pattern.Piece.TheVariants.{Anything, Set}
-use Rattle.aspath_text.specs.declared.pattern.DigitWord.{DigitWord}
-use Rattle.aspath_text.specs.declared.pattern.DigitWord.TheVariants.{Any, Digits}
-use Rattle.aspath_text.specs.declared.pattern.DigitSet.{DigitSet}
-use Rattle.aspath_text.specs.declared.pattern.Tail.{Tail}
-use Rattle.aspath_text.specs.declared.pattern.Repeat.{Repeat}
-use Rattle.aspath_text.specs.declared.pattern.Repeat.TheVariants.{Star, Plus, Maybe}
+use Rattle.path_patterns.specs.Shape.{IsBranch}
+use Rattle.path_patterns.specs.PathItems.{has_digit}
+use Rattle.path_patterns.specs.declared.pattern.IosBranch.{IosBranch}
+use Rattle.path_patterns.specs.declared.pattern.IosBranch.TheVariants.{EmptyPath, Pieces}
+use Rattle.path_patterns.specs.declared.pattern.Mark.{Mark}
+use Rattle.path_patterns.specs.declared.pattern.Mark.TheVariants.{Anchor, Under, Nothing}
+use Rattle.path_patterns.specs.declared.pattern.Piece.{Piece}
+use Rattle.path_patterns.specs.declared.pattern.Piece.TheVariants.{Anything, Set}
+use Rattle.path_patterns.specs.declared.pattern.DigitWord.{DigitWord}
+use Rattle.path_patterns.specs.declared.pattern.DigitWord.TheVariants.{Any, Digits}
+use Rattle.path_patterns.specs.declared.pattern.DigitSet.{DigitSet}
+use Rattle.path_patterns.specs.declared.pattern.Tail.{Tail}
+use Rattle.path_patterns.specs.declared.pattern.Repeat.{Repeat}
+use Rattle.path_patterns.specs.declared.pattern.Repeat.TheVariants.{Star, Plus, Maybe}
 
 -- texts with a byte between each two of them
 unfoldable pub joined_by : ℕ → List (List ℕ) → List ℕ

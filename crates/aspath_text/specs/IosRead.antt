@@ -4,18 +4,18 @@ use Rattle.std.specs.Prelude.{ℕ, zero, suc, ◌+◌, ◌-◌, ◌^◌, Bool, t
 use Rattle.std.specs.Int.Bits.{bit_or}
 use Rattle.route_types.specs.Words.{is_digit, when, parts_at, ◌>>=◌}
 use Rattle.policy_text.specs.Phrases.{each}
-use Rattle.aspath_text.specs.declared.pattern.IosBranch.{IosBranch}
-use Rattle.aspath_text.specs.declared.pattern.IosBranch.TheVariants.{EmptyPath, Pieces}
-use Rattle.aspath_text.specs.declared.pattern.Mark.{Mark}
-use Rattle.aspath_text.specs.declared.pattern.Mark.TheVariants.{Anchor, Under, Nothing}
-use Rattle.aspath_text.specs.declared.pattern.Piece.{Piece}
-use Rattle.aspath_text.specs.declared.pattern.Piece.TheVariants.{Anything, Set}
-use Rattle.aspath_text.specs.declared.pattern.DigitWord.{DigitWord}
-use Rattle.aspath_text.specs.declared.pattern.DigitWord.TheVariants.{Any, Digits}
-use Rattle.aspath_text.specs.declared.pattern.DigitSet.{DigitSet}
-use Rattle.aspath_text.specs.declared.pattern.Tail.{Tail}
-use Rattle.aspath_text.specs.declared.pattern.Repeat.{Repeat}
-use Rattle.aspath_text.specs.declared.pattern.Repeat.TheVariants.{Star, Plus, Maybe}
+use Rattle.path_patterns.specs.declared.pattern.IosBranch.{IosBranch}
+use Rattle.path_patterns.specs.declared.pattern.IosBranch.TheVariants.{EmptyPath, Pieces}
+use Rattle.path_patterns.specs.declared.pattern.Mark.{Mark}
+use Rattle.path_patterns.specs.declared.pattern.Mark.TheVariants.{Anchor, Under, Nothing}
+use Rattle.path_patterns.specs.declared.pattern.Piece.{Piece}
+use Rattle.path_patterns.specs.declared.pattern.Piece.TheVariants.{Anything, Set}
+use Rattle.path_patterns.specs.declared.pattern.DigitWord.{DigitWord}
+use Rattle.path_patterns.specs.declared.pattern.DigitWord.TheVariants.{Any, Digits}
+use Rattle.path_patterns.specs.declared.pattern.DigitSet.{DigitSet}
+use Rattle.path_patterns.specs.declared.pattern.Tail.{Tail}
+use Rattle.path_patterns.specs.declared.pattern.Repeat.{Repeat}
+use Rattle.path_patterns.specs.declared.pattern.Repeat.TheVariants.{Star, Plus, Maybe}
 
 -- ---- cuts outside parentheses
 

@@ -2,23 +2,23 @@
 use Rattle.std.specs.Prelude.{ℕ, ◌+◌, ◌-◌, Bool, true, cond, ◌&&◌, ◌==◌, List, [], ◌∷◌, ◌++◌, map, flat_map, codes, Option, Some, None}
 use Rattle.std.specs.List.{AllByRecursion, repeat as repeated}
 use Rattle.aspath_text.specs.IosGrammar.{joined_by, repeat_sign, left_text, right_text}
-use Rattle.aspath_text.specs.PathItems.{has_digit}
-use Rattle.aspath_text.specs.Shape.{IsBranch}
-use Rattle.aspath_text.specs.RangeWords.{AreRuns}
-use Rattle.aspath_text.specs.IosForm.{takes_one, is_free, closes, behind_first}
-use Rattle.aspath_text.specs.declared.word_item.WordItem.{WordItem}
-use Rattle.aspath_text.specs.declared.pattern.IosBranch.{IosBranch}
-use Rattle.aspath_text.specs.declared.pattern.IosBranch.TheVariants.{EmptyPath, Pieces}
-use Rattle.aspath_text.specs.declared.pattern.Mark.{Mark}
-use Rattle.aspath_text.specs.declared.pattern.Mark.TheVariants.{Anchor, Under}
-use Rattle.aspath_text.specs.declared.pattern.Piece.{Piece}
-use Rattle.aspath_text.specs.declared.pattern.Piece.TheVariants.{Anything, Set}
-use Rattle.aspath_text.specs.declared.pattern.DigitWord.{DigitWord}
-use Rattle.aspath_text.specs.declared.pattern.DigitWord.TheVariants.{Any, Digits}
-use Rattle.aspath_text.specs.declared.pattern.DigitSet.{DigitSet}
-use Rattle.aspath_text.specs.declared.pattern.Tail.{Tail}
-use Rattle.aspath_text.specs.declared.pattern.Repeat.{Repeat}
-use Rattle.aspath_text.specs.declared.pattern.Repeat.TheVariants.{Star, Maybe}
+use Rattle.path_patterns.specs.PathItems.{has_digit}
+use Rattle.path_patterns.specs.Shape.{IsBranch}
+use Rattle.path_patterns.specs.RangeWords.{AreRuns}
+use Rattle.path_patterns.specs.IosForm.{takes_one, is_free, closes, behind_first}
+use Rattle.path_patterns.specs.declared.word_item.WordItem.{WordItem}
+use Rattle.path_patterns.specs.declared.pattern.IosBranch.{IosBranch}
+use Rattle.path_patterns.specs.declared.pattern.IosBranch.TheVariants.{EmptyPath, Pieces}
+use Rattle.path_patterns.specs.declared.pattern.Mark.{Mark}
+use Rattle.path_patterns.specs.declared.pattern.Mark.TheVariants.{Anchor, Under}
+use Rattle.path_patterns.specs.declared.pattern.Piece.{Piece}
+use Rattle.path_patterns.specs.declared.pattern.Piece.TheVariants.{Anything, Set}
+use Rattle.path_patterns.specs.declared.pattern.DigitWord.{DigitWord}
+use Rattle.path_patterns.specs.declared.pattern.DigitWord.TheVariants.{Any, Digits}
+use Rattle.path_patterns.specs.declared.pattern.DigitSet.{DigitSet}
+use Rattle.path_patterns.specs.declared.pattern.Tail.{Tail}
+use Rattle.path_patterns.specs.declared.pattern.Repeat.{Repeat}
+use Rattle.path_patterns.specs.declared.pattern.Repeat.TheVariants.{Star, Maybe}
 
 -- ---- the text of branches
 

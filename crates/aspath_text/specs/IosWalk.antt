@@ -2,7 +2,7 @@
 use Rattle.std.specs.Prelude.{◌≡◌, ℕ, zero, suc, ◌+◌, ◌<◌, length, true, false, ◌&&◌, ◌==◌, List, [], ◌∷◌, ◌++◌, Option, Some, None}
 use Rattle.route_types.specs.Words.{◌>>=◌}
 use Rattle.aspath_text.specs.IosRead.{depth_behind, parts_by, set_at}
-use Rattle.aspath_text.specs.declared.pattern.DigitSet.{DigitSet}
+use Rattle.path_patterns.specs.declared.pattern.DigitSet.{DigitSet}
 
 -- the length of what stands before the first such byte outside parentheses; else of all
 unfoldable pub part_length : ℕ → ℕ → List ℕ → ℕ

@@ -5,12 +5,12 @@ use Rattle.std.specs.List.{list_all}
 use Rattle.text_words.specs.Text.{is_blank}
 use Rattle.route_types.specs.Words.{IsNumber}
 use Rattle.route_types.specs.RouteText.{Each}
-use Rattle.aspath_text.specs.Items.{greatest}
+use Rattle.path_patterns.specs.Items.{greatest}
 use Rattle.aspath_text.specs.IosGrammar.{joined_by}
-use Rattle.aspath_text.specs.declared.items.NumberRange.{NumberRange}
-use Rattle.aspath_text.specs.declared.items.NumberSet.{NumberSet}
-use Rattle.aspath_text.specs.declared.items.TokenItem.{TokenItem}
-use Rattle.aspath_text.specs.declared.items.TokenPattern.{TokenPattern}
+use Rattle.path_patterns.specs.declared.items.NumberRange.{NumberRange}
+use Rattle.path_patterns.specs.declared.items.NumberSet.{NumberSet}
+use Rattle.path_patterns.specs.declared.items.TokenItem.{TokenItem}
+use Rattle.path_patterns.specs.declared.items.TokenPattern.{TokenPattern}
 
 -- any count of blanks
 abbrev pub AreBlanks : List ℕ → Type 0

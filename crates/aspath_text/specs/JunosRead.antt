@@ -6,10 +6,10 @@ use Rattle.text_words.specs.Text.{is_blank}
 use Rattle.route_types.specs.RouteText.{onto_word}
 use Rattle.route_types.specs.Words.{◌>>=◌, when, number_in, parts_at}
 use Rattle.policy_text.specs.Phrases.{each}
-use Rattle.aspath_text.specs.Items.{greatest}
-use Rattle.aspath_text.specs.declared.items.NumberRange.{NumberRange}
-use Rattle.aspath_text.specs.declared.items.TokenItem.{TokenItem}
-use Rattle.aspath_text.specs.declared.items.TokenPattern.{TokenPattern}
+use Rattle.path_patterns.specs.Items.{greatest}
+use Rattle.path_patterns.specs.declared.items.NumberRange.{NumberRange}
+use Rattle.path_patterns.specs.declared.items.TokenItem.{TokenItem}
+use Rattle.path_patterns.specs.declared.items.TokenPattern.{TokenPattern}
 use Rattle.aspath_text.specs.declared.junos_words.Count.{Count}
 
 -- ---- numbers, members and groups

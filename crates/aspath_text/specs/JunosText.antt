@@ -1,9 +1,9 @@
 -- The text of items as a Junos AS-path pattern: no blanks but one between two items.
 use Rattle.std.specs.Prelude.{ℕ, ◌==◌, ◌&&◌, if◌then◌else◌, List, [], ◌∷◌, ◌++◌, Option, Some, None, map, codes, decimal}
 use Rattle.aspath_text.specs.IosGrammar.{joined_by}
-use Rattle.aspath_text.specs.Items.{greatest}
-use Rattle.aspath_text.specs.declared.items.NumberRange.{NumberRange}
-use Rattle.aspath_text.specs.declared.items.TokenItem.{TokenItem}
+use Rattle.path_patterns.specs.Items.{greatest}
+use Rattle.path_patterns.specs.declared.items.NumberRange.{NumberRange}
+use Rattle.path_patterns.specs.declared.items.TokenItem.{TokenItem}
 
 -- a number, `.` for all numbers, or `a-b`
 unfoldable pub range_text : NumberRange → List ℕ

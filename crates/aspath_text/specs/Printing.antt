@@ -1,14 +1,14 @@
 -- What the readers and the printers of patterns answer.
 use Rattle.std.specs.Prelude.{◌≡◌, ℕ, List, Option, Some, None, Result, Ok, Err, ◌↔◌}
-use Rattle.aspath_text.specs.Items.{IsPath, BranchMatches, Matches}
-use Rattle.aspath_text.specs.Search.{Found}
+use Rattle.path_patterns.specs.Items.{IsPath, BranchMatches, Matches}
+use Rattle.path_patterns.specs.Search.{Found}
 use Rattle.aspath_text.specs.IosGrammar.{SpellsPattern}
 use Rattle.aspath_text.specs.JunosGrammar.{SpellsJunos}
 use Rattle.aspath_text.specs.declared.fault.PatternFault.{PatternFault}
 use Rattle.aspath_text.specs.declared.fault.PatternFault.TheVariants.{NotShaped, Memory}
-use Rattle.aspath_text.specs.declared.items.TokenBranch.{TokenBranch}
-use Rattle.aspath_text.specs.declared.items.TokenPattern.{TokenPattern}
-use Rattle.aspath_text.specs.declared.pattern.IosBranch.{IosBranch}
+use Rattle.path_patterns.specs.declared.items.TokenBranch.{TokenBranch}
+use Rattle.path_patterns.specs.declared.items.TokenPattern.{TokenPattern}
+use Rattle.path_patterns.specs.declared.pattern.IosBranch.{IosBranch}
 
 -- a reading gives the value that the function finds, and NotShaped exactly where it finds none
 abbrev pub Reads : {A : Type 0} → Option A → Result A PatternFault → Type 0

@@ -1,11 +1,11 @@
 -- The text of the branches of a pattern, as IOS branches with a `|` before each of them.
 use Rattle.std.specs.Prelude.{◌≡◌, ℕ, List, [], ◌∷◌, ◌++◌, Option, Some, None, ◌↔◌, ◌⊎◌}
 use Rattle.std.specs.List.{AllByRecursion}
-use Rattle.aspath_text.specs.Items.{IsPath, Matches}
-use Rattle.aspath_text.specs.SamePaths.{BranchesTake}
+use Rattle.path_patterns.specs.Items.{IsPath, Matches}
+use Rattle.path_patterns.specs.SamePaths.{BranchesTake}
 use Rattle.aspath_text.specs.IosText.{barred_text, IsPrintable}
-use Rattle.aspath_text.specs.declared.items.TokenBranch.{TokenBranch}
-use Rattle.aspath_text.specs.declared.pattern.IosBranch.{IosBranch}
+use Rattle.path_patterns.specs.declared.items.TokenBranch.{TokenBranch}
+use Rattle.path_patterns.specs.declared.pattern.IosBranch.{IosBranch}
 
 -- some branch matches a path
 abbrev pub SomeMatches : List TokenBranch → List ℕ → Type 0

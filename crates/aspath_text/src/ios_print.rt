@@ -3,8 +3,7 @@ ghost use Rattle.aspath_text.specs.Printing.{PrintsIos};
 ghost use Rattle.aspath_text.specs.Written.{IsWritten, AddsBranch, behind_first_byte};
 
 use crate::ios_text::push_items;
-use crate::items::{TokenBranch, TokenPattern};
-use crate::word_item::word_items;
+use path_patterns::{TokenBranch, TokenPattern, word_items};
 use route_types::Memory;
 use std::alloc::Global;
 

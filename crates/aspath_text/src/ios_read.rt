@@ -5,11 +5,11 @@ ghost use Rattle.aspath_text.specs.IosRead.{parts_by, grouped, lone, word_in, se
 ghost use Rattle.aspath_text.specs.IosWalk.{parts_behind, set_length};
 ghost use Rattle.aspath_text.specs.Printing.{Reads};
 ghost use Rattle.aspath_text.specs.declared.fault.PatternFault.TheVariants.{NotShaped};
-ghost use Rattle.aspath_text.specs.declared.pattern.IosBranch.{IosBranch};
+ghost use Rattle.path_patterns.specs.declared.pattern.IosBranch.{IosBranch};
 
 use crate::fault::PatternFault;
 use crate::ios_words::{cut, first_part, next_part, part_length, word};
-use crate::pattern::{
+use path_patterns::{
     DigitWord, IosBranch, IosPattern, Mark, PathPieces, Piece, PieceSet, Repeat, Tail,
 };
 use route_types::Row;

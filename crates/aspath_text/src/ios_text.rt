@@ -1,13 +1,12 @@
 ghost use Rattle.std.specs.Prelude.{◌≡◌, ◌<◌, ◌+◌, ◌∷◌, ◌++◌, [], IfOk, flat_map, codes, map};
 ghost use Rattle.std.specs.List.{AllByRecursion, repeat as repeated};
 ghost use Rattle.aspath_text.specs.IosGrammar.{repeat_sign, left_text};
-ghost use Rattle.aspath_text.specs.IosForm.{is_free, are_any, closes, behind_first};
+ghost use Rattle.path_patterns.specs.IosForm.{is_free, are_any, closes, behind_first};
 ghost use Rattle.aspath_text.specs.IosText.{first_in, least_digit, greatest_digit, run_text, digit_set_text, word_text, group_text, set_text, tail_text, further_text, item_text, rest_text, start_text, starts_text, items_text};
-ghost use Rattle.aspath_text.specs.declared.pattern.Mark.TheVariants.{Anchor as IsAnchor};
-ghost use Rattle.aspath_text.specs.declared.pattern.Repeat.TheVariants.{Maybe as IsMaybe};
+ghost use Rattle.path_patterns.specs.declared.pattern.Mark.TheVariants.{Anchor as IsAnchor};
+ghost use Rattle.path_patterns.specs.declared.pattern.Repeat.TheVariants.{Maybe as IsMaybe};
 
-use crate::pattern::{DigitSet, DigitWord, Mark, Repeat};
-use crate::word_item::WordItem;
+use path_patterns::{DigitSet, DigitWord, Mark, Repeat, WordItem};
 use route_types::Memory;
 
 // ---- a set of digit words

@@ -4,7 +4,7 @@ ghost use Rattle.aspath_text.specs.IosRead.{depth_behind, parts_by, cut_at, run_
 ghost use Rattle.aspath_text.specs.Printing.{Reads};
 
 use crate::fault::PatternFault;
-use crate::pattern::{DigitSet, DigitWord};
+use path_patterns::{DigitSet, DigitWord};
 use policy_text::parts_at;
 use route_types::Row;
 use std::alloc::Global;

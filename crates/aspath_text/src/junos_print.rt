@@ -3,8 +3,7 @@ ghost use Rattle.aspath_text.specs.IosGrammar.{joined_by};
 ghost use Rattle.aspath_text.specs.JunosText.{range_text, ranges_text, set_text, exact_text, more_text, between_text, count_text, item_text, items_text};
 ghost use Rattle.aspath_text.specs.Printing.{PrintsJunos};
 
-use crate::items::{NumberRange, TokenBranch, TokenItem};
-use crate::junos_items::written;
+use path_patterns::{NumberRange, TokenBranch, TokenItem, written};
 use route_types::{Memory, push_number};
 use std::alloc::Global;
 

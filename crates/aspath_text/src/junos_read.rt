@@ -6,11 +6,11 @@ ghost use Rattle.aspath_text.specs.JunosRead.{member_in, members_of, is_sign, it
 ghost use Rattle.aspath_text.specs.JunosWalk.{item_end};
 ghost use Rattle.aspath_text.specs.Printing.{Reads};
 ghost use Rattle.aspath_text.specs.declared.fault.PatternFault.TheVariants.{NotShaped};
-ghost use Rattle.aspath_text.specs.declared.items.TokenPattern.{TokenPattern};
+ghost use Rattle.path_patterns.specs.declared.items.TokenPattern.{TokenPattern};
 
 use crate::fault::PatternFault;
-use crate::items::{NumberRange, NumberSet, TokenBranch, TokenItem, TokenPattern};
 use crate::junos_words::{Count, behind_blanks, is_blank, read_count, read_member, read_range};
+use path_patterns::{NumberRange, NumberSet, TokenBranch, TokenItem, TokenPattern};
 use policy_text::parts_at;
 use route_types::Row;
 use std::alloc::Global;

@@ -2,10 +2,10 @@ ghost use Rattle.std.specs.Prelude.{◌≡◌, ◌≤◌, ◌==◌, [], Some, No
 ghost use Rattle.std.specs.List.{list_all, position, position_or_len};
 ghost use Rattle.text_words.specs.Text.{is_blank};
 ghost use Rattle.route_types.specs.Words.{number_in, parts_at};
-ghost use Rattle.aspath_text.specs.Items.{greatest};
+ghost use Rattle.path_patterns.specs.Items.{greatest};
 ghost use Rattle.aspath_text.specs.JunosRead.{ends_in, range_in, behind_blanks, range_before, member_in, sign_in, upper_in, bounds_in, braced_in, count_in};
 
-use crate::items::NumberRange;
+use path_patterns::NumberRange;
 use policy_text::{parts_at, read_number};
 
 // ---- numbers and members

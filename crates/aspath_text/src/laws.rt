@@ -1,16 +1,11 @@
 ghost use Rattle.std.specs.Prelude.{◌≡◌, ℕ, List, Some};
-ghost use Rattle.std.specs.Bool.{Decides};
-ghost use Rattle.aspath_text.specs.Finds.{finds_in};
 ghost use Rattle.aspath_text.specs.IosGrammar.{SpellsPattern};
 ghost use Rattle.aspath_text.specs.IosRead.{ios_pattern_in};
-ghost use Rattle.aspath_text.specs.Items.{Matches};
 ghost use Rattle.aspath_text.specs.JunosGrammar.{SpellsJunos};
 ghost use Rattle.aspath_text.specs.JunosRead.{junos_pattern_in};
-ghost use Rattle.aspath_text.specs.PathMatches.{path_matches};
-ghost use Rattle.aspath_text.specs.Search.{Found};
-ghost use Rattle.aspath_text.specs.Shape.{IsShaped};
-ghost use Rattle.aspath_text.specs.declared.items.TokenPattern.{TokenPattern};
-ghost use Rattle.aspath_text.specs.declared.pattern.IosBranch.{IosBranch};
+ghost use Rattle.path_patterns.specs.Shape.{IsShaped};
+ghost use Rattle.path_patterns.specs.declared.items.TokenPattern.{TokenPattern};
+ghost use Rattle.path_patterns.specs.declared.pattern.IosBranch.{IosBranch};
 
 /// The law of IOS path patterns; its clauses are all that it does. The pattern that is found in a text
 /// is spelled by it, a pattern that is spelled is found, so that a text spells at most one, and each has
@@ -31,16 +26,4 @@ pub fn junos_patterns()
     ensures found { (text : List ℕ) (p : TokenPattern) → junos_pattern_in text ≡ Some p → SpellsJunos text p }
     // and a pattern that the text spells is found.
     ensures only { (text : List ℕ) (p : TokenPattern) → SpellsJunos text p → junos_pattern_in text ≡ Some p }
-{}
-
-/// The law of the function that searches; its clause is all that it does. For every pattern and path the
-/// function answers true exactly where the pattern is found in the text of the path.
-pub fn path_searches()
-    ensures { (bs : List IosBranch) (path : List ℕ) → Decides (finds_in bs path) (Found bs path) }
-{}
-
-/// The law of the function that matches; its clause is all that it does. For every pattern of items and
-/// path the function answers true exactly where the items of some branch take the whole path.
-pub fn path_items()
-    ensures { (p : TokenPattern) (path : List ℕ) → Decides (path_matches p path) (Matches p path) }
 {}

@@ -5,9 +5,8 @@ ghost use Rattle.aspath_text.specs.JunosRead.{junos_pattern_in};
 
 use crate::fault::PatternFault;
 use crate::ios_read::read_ios_pattern;
-use crate::items::TokenPattern;
 use crate::junos_read::read_junos_pattern;
-use crate::pattern::IosPattern;
+use path_patterns::{IosPattern, TokenPattern};
 use policy_text::Reads;
 use route_types::Memory;
 use std::alloc::Global;

@@ -23,11 +23,11 @@ use Rattle.community_sets.specs.declared.list.CommTest.{CommTest}
 use Rattle.community_sets.specs.declared.list.CommTest.TheVariants.{AllOf, Exactly}
 use Rattle.community_sets.specs.declared.list.CommEntry.{CommEntry}
 use Rattle.community_sets.specs.declared.list.CommList.{CommList}
-use Rattle.aspath_text.specs.declared.items.NumberRange.{NumberRange}
-use Rattle.aspath_text.specs.declared.items.NumberSet.{NumberSet}
-use Rattle.aspath_text.specs.declared.items.TokenItem.{TokenItem}
-use Rattle.aspath_text.specs.declared.items.TokenBranch.{TokenBranch}
-use Rattle.aspath_text.specs.declared.items.TokenPattern.{TokenPattern}
+use Rattle.path_patterns.specs.declared.items.NumberRange.{NumberRange}
+use Rattle.path_patterns.specs.declared.items.NumberSet.{NumberSet}
+use Rattle.path_patterns.specs.declared.items.TokenItem.{TokenItem}
+use Rattle.path_patterns.specs.declared.items.TokenBranch.{TokenBranch}
+use Rattle.path_patterns.specs.declared.items.TokenPattern.{TokenPattern}
 use Rattle.core_nodes.specs.declared.atom.PathEntry.{PathEntry}
 use Rattle.core_nodes.specs.declared.atom.PathList.{PathList}
 use Rattle.core_nodes.specs.declared.atom.Atom.{Atom}

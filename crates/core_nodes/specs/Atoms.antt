@@ -7,7 +7,7 @@ use Rattle.route_types.specs.declared.route.Origin.TheVariants.{Igp, Egp, Incomp
 use Rattle.route_types.specs.declared.community.Community.{Community}
 use Rattle.prefix_sets.specs.FirstMatch.{first_match, hop_match}
 use Rattle.community_sets.specs.Tests.{list_answers}
-use Rattle.aspath_text.specs.PathMatches.{path_matches}
+use Rattle.path_patterns.specs.PathMatches.{path_matches}
 use Rattle.core_nodes.specs.declared.atom.PathEntry.{PathEntry}
 use Rattle.core_nodes.specs.declared.atom.Atom.{Atom}
 use Rattle.core_nodes.specs.declared.atom.Atom.TheVariants.{Prefix, NextHop, Path, Community as Communities, MedOneOf, MedAtLeast, MedAtMost, LocalPreference, Origin as OriginIs, NoCommunity}

@@ -10,7 +10,7 @@ use Rattle.route_types.specs.declared.route.NextHop.TheVariants.{At}
 use Rattle.route_types.specs.declared.change.Change.{Change}
 use Rattle.route_types.specs.declared.change.Change.TheVariants.{NextHop, Prepend, Origin, LocalPreference, Med, Weight, Communities}
 use Rattle.route_types.specs.declared.community.CommChange.{CommChange}
-use Rattle.aspath_text.specs.Items.{SomeOf}
+use Rattle.path_patterns.specs.Items.{SomeOf}
 use Rattle.core_nodes.specs.declared.atom.Atom.{Atom}
 use Rattle.core_nodes.specs.declared.atom.Atom.TheVariants.{Community}
 use Rattle.policy_core.specs.Ranges.{address_in_range}

@@ -8,7 +8,7 @@ use Rattle.route_types.specs.declared.community.Community.{Community}
 use Rattle.community_sets.specs.declared.list.CommEntry.{CommEntry}
 use Rattle.community_sets.specs.declared.list.CommList.{CommList}
 use Rattle.community_sets.specs.declared.list.CommTest.{CommTest}
-use Rattle.aspath_text.proofs.Lists.{all_append}
+use Rattle.path_patterns.proofs.Lists.{all_append}
 use Rattle.policy_core.specs.Sayable.{is_plain_half, is_plain, is_all_of, is_plain_all_of, is_exactly, lists_are}
 use Rattle.ios_tree.specs.declared.item.CommunityListEntry.{CommunityListEntry}
 use Rattle.ios_tree.specs.declared.item.CommunityShape.{CommunityShape}

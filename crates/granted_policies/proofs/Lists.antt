@@ -3,8 +3,8 @@ use Rattle.std.proofs.Common.{◌≡◌, refl, sym, subst, ℕ, Bool, true, fals
 use Rattle.std.specs.Prelude.{nat_le, map, reverse}
 use Rattle.std.specs.List.{list_all, list_any, AllByRecursion}
 use Rattle.std.proofs.lemmas.Grind.{reverse_onto}
-use Rattle.aspath_text.specs.Items.{SomeOf}
-use Rattle.aspath_text.proofs.Lists.{all_append}
+use Rattle.path_patterns.specs.Items.{SomeOf}
+use Rattle.path_patterns.proofs.Lists.{all_append}
 use Rattle.ios_meaning.specs.Order.{put_in_order, in_order}
 
 pub both_true : (a b : Bool) → a ≡ true → b ≡ true → (a && b) ≡ true

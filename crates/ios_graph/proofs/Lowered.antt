@@ -9,8 +9,8 @@ use Rattle.route_types.specs.Route.{RouteParts}
 use Rattle.route_types.specs.declared.change.Change.{Change}
 use Rattle.route_types.specs.declared.route.Outcome.{Outcome}
 use Rattle.route_types.specs.declared.route.Outcome.TheVariants.{Reject}
-use Rattle.aspath_text.specs.Items.{IsPath, SomeOf}
-use Rattle.aspath_text.proofs.Lists.{all_append}
+use Rattle.path_patterns.specs.Items.{IsPath, SomeOf}
+use Rattle.path_patterns.proofs.Lists.{all_append}
 use Rattle.core_nodes.specs.Atoms.{atom_holds}
 use Rattle.core_nodes.specs.Made.{Keeps, IsMade}
 use Rattle.core_nodes.specs.Nodes.{AreNodes}

@@ -12,8 +12,8 @@ use Rattle.prefix_sets.specs.declared.list.PrefixList.{PrefixList}
 use Rattle.community_sets.specs.Tests.{list_answers}
 use Rattle.community_sets.specs.declared.list.CommEntry.{CommEntry}
 use Rattle.community_sets.specs.declared.list.CommList.{CommList}
-use Rattle.aspath_text.specs.Finds.{finds_in}
-use Rattle.aspath_text.specs.Items.{IsPath}
+use Rattle.path_patterns.specs.Finds.{finds_in}
+use Rattle.path_patterns.specs.Items.{IsPath}
 use Rattle.core_nodes.specs.Atoms.{path_answers as nodes_answer, atom_holds}
 use Rattle.core_nodes.specs.declared.atom.Atom.{Atom}
 use Rattle.core_nodes.specs.declared.atom.Atom.TheVariants.{Prefix, Path, Community}

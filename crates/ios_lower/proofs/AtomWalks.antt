@@ -5,7 +5,7 @@ use Rattle.std.specs.List.{list_all, AllByRecursion}
 use Rattle.std.proofs.lemmas.List.{append-nil}
 use Rattle.std.proofs.lemmas.List.Folds.{list_all-append}
 use Rattle.route_types.specs.Route.{RouteParts}
-use Rattle.aspath_text.specs.Items.{IsPath}
+use Rattle.path_patterns.specs.Items.{IsPath}
 use Rattle.core_nodes.specs.Atoms.{atom_holds}
 use Rattle.core_nodes.specs.declared.atom.Atom.{Atom}
 use Rattle.core_nodes.specs.declared.atom.PathList.{PathList}

@@ -6,7 +6,7 @@ use Rattle.route_types.specs.Change.{changed_by}
 use Rattle.route_types.specs.Route.{RouteParts}
 use Rattle.route_types.specs.declared.change.Change.{Change}
 use Rattle.route_types.specs.declared.route.Outcome.{Outcome}
-use Rattle.aspath_text.specs.Items.{SomeOf}
+use Rattle.path_patterns.specs.Items.{SomeOf}
 use Rattle.core_nodes.specs.Atoms.{atom_holds}
 use Rattle.core_nodes.specs.Made.{Keeps, IsMade}
 use Rattle.core_nodes.specs.Outcome.{outcome_at}

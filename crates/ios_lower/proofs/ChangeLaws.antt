@@ -14,8 +14,8 @@ use Rattle.route_types.specs.declared.change.Change.TheVariants.{NextHop, Prepen
 use Rattle.route_types.specs.declared.community.Community.{Community}
 use Rattle.route_types.proofs.Sets.{same_community, set_of_ascending, set_itself, set_kept}
 use Rattle.community_sets.specs.Tests.{list_answers}
-use Rattle.aspath_text.specs.Items.{SomeOf}
-use Rattle.aspath_text.proofs.Lists.{all_append}
+use Rattle.path_patterns.specs.Items.{SomeOf}
+use Rattle.path_patterns.proofs.Lists.{all_append}
 use Rattle.ios_tree.specs.declared.item.CommunitySetting.{CommunitySetting}
 use Rattle.ios_tree.specs.declared.item.IosItem.{IosItem}
 use Rattle.ios_tree.specs.declared.item.MapLine.{MapLine}

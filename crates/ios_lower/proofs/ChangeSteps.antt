@@ -5,7 +5,7 @@ use Rattle.std.specs.List.{AllByRecursion}
 use Rattle.route_types.specs.Change.{changed_by}
 use Rattle.route_types.specs.Route.{RouteParts}
 use Rattle.route_types.specs.declared.change.Change.{Change}
-use Rattle.aspath_text.proofs.Lists.{all_append}
+use Rattle.path_patterns.proofs.Lists.{all_append}
 use Rattle.ios_tree.specs.declared.item.IosItem.{IosItem}
 use Rattle.ios_tree.specs.declared.item.MapLine.{MapLine}
 use Rattle.ios_meaning.specs.Meaning.{deletes, set_by_lines}

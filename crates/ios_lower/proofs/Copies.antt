@@ -5,7 +5,7 @@ use Rattle.std.proofs.lemmas.List.{append-nil}
 use Rattle.route_types.specs.declared.change.Change.{Change}
 use Rattle.route_types.specs.declared.change.Change.TheVariants.{Prepend}
 use Rattle.route_types.specs.declared.community.Community.{Community}
-use Rattle.aspath_text.specs.Items.{IsPath}
+use Rattle.path_patterns.specs.Items.{IsPath}
 use Rattle.ios_lower.specs.ChangeSteps.{AreSmall}
 
 -- the communities that are left have not been copied

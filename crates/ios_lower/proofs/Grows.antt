@@ -1,7 +1,7 @@
 -- Lists that grow at their front, one element or some at a time.
 use Rattle.std.proofs.Common.{◌≡◌, refl, sym, ap, subst, ◌∙◌, List, [], ◌∷◌, ◌++◌, append_assoc, inl, inr, ◌⊎◌}
 use Rattle.std.specs.List.{AllByRecursion}
-use Rattle.aspath_text.proofs.Lists.{all_append}
+use Rattle.path_patterns.proofs.Lists.{all_append}
 use Rattle.ios_lower.specs.Grows.{Grows}
 
 -- what holds of each element by one reason holds by a wider one

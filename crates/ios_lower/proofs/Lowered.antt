@@ -7,7 +7,7 @@ use Rattle.route_types.specs.Route.{RouteParts, InRange}
 use Rattle.route_types.specs.declared.change.Change.{Change}
 use Rattle.route_types.specs.declared.route.Outcome.{Outcome}
 use Rattle.route_types.specs.declared.route.Outcome.TheVariants.{Reject, Accept}
-use Rattle.aspath_text.specs.Items.{IsPath, SomeOf}
+use Rattle.path_patterns.specs.Items.{IsPath, SomeOf}
 use Rattle.core_nodes.specs.Atoms.{atom_holds}
 use Rattle.core_nodes.specs.Made.{Keeps, IsMade}
 use Rattle.core_nodes.specs.Nodes.{AreNodes}

@@ -3,10 +3,10 @@ use Rattle.std.specs.Prelude.{◌≡◌, ◌++◌, ◌&&◌, ℕ, Bool, true, Li
 use Rattle.std.specs.List.{list_all, AllByRecursion}
 use Rattle.route_types.specs.Route.{RouteParts}
 use Rattle.community_sets.specs.declared.list.CommEntry.{CommEntry}
-use Rattle.aspath_text.specs.Finds.{finds_in}
-use Rattle.aspath_text.specs.Items.{IsPath}
-use Rattle.aspath_text.specs.PathMatches.{path_matches}
-use Rattle.aspath_text.specs.TokenForm.{token_form}
+use Rattle.path_patterns.specs.Finds.{finds_in}
+use Rattle.path_patterns.specs.Items.{IsPath}
+use Rattle.path_patterns.specs.PathMatches.{path_matches}
+use Rattle.path_patterns.specs.TokenForm.{token_form}
 use Rattle.core_nodes.specs.Atoms.{atom_holds}
 use Rattle.core_nodes.specs.declared.atom.Atom.{Atom}
 use Rattle.core_nodes.specs.declared.atom.PathEntry.{PathEntry}

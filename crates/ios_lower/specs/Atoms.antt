@@ -4,7 +4,7 @@ use Rattle.std.specs.Prelude.{ℕ, Bool, List, [], ◌∷◌, Option, Some, None
 use Rattle.route_types.specs.declared.address.Family.{Family}
 use Rattle.prefix_sets.specs.declared.list.PrefixList.{PrefixList}
 use Rattle.community_sets.specs.declared.list.CommList.{CommList}
-use Rattle.aspath_text.specs.TokenForm.{token_form}
+use Rattle.path_patterns.specs.TokenForm.{token_form}
 use Rattle.core_nodes.specs.declared.atom.Atom.{Atom}
 use Rattle.core_nodes.specs.declared.atom.Atom.TheVariants.{Prefix, NextHop, Path, Community, MedOneOf}
 use Rattle.core_nodes.specs.declared.atom.PathEntry.{PathEntry}

@@ -4,7 +4,7 @@ use Rattle.std.specs.List.{list_all}
 use Rattle.route_types.specs.Change.{changed_by}
 use Rattle.route_types.specs.Route.{RouteParts}
 use Rattle.route_types.specs.declared.change.Change.{Change}
-use Rattle.aspath_text.specs.Items.{SomeOf}
+use Rattle.path_patterns.specs.Items.{SomeOf}
 use Rattle.core_nodes.specs.Atoms.{atom_holds}
 use Rattle.core_nodes.specs.Made.{Keeps}
 use Rattle.core_nodes.specs.Outcome.{outcome_at}

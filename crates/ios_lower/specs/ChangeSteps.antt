@@ -6,7 +6,7 @@ use Rattle.route_types.specs.Community.{IsAscending}
 use Rattle.route_types.specs.Route.{RouteParts}
 use Rattle.route_types.specs.declared.change.Change.{Change}
 use Rattle.route_types.specs.declared.community.Community.{Community}
-use Rattle.aspath_text.specs.Items.{IsPath, SomeOf}
+use Rattle.path_patterns.specs.Items.{IsPath, SomeOf}
 use Rattle.ios_tree.specs.declared.item.IosItem.{IosItem}
 use Rattle.ios_tree.specs.declared.item.MapLine.{MapLine}
 use Rattle.ios_tree.specs.declared.item.MapLine.TheVariants.{SetPrepend, SetCommunity}

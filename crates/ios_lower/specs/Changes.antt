@@ -5,7 +5,7 @@ use Rattle.route_types.specs.declared.change.Change.{Change}
 use Rattle.route_types.specs.declared.change.Change.TheVariants.{NextHop, Prepend, Origin, LocalPreference, Med, Weight, Communities}
 use Rattle.route_types.specs.declared.community.CommChange.{CommChange}
 use Rattle.route_types.specs.declared.route.NextHop.TheVariants.{At}
-use Rattle.aspath_text.specs.Items.{SomeOf}
+use Rattle.path_patterns.specs.Items.{SomeOf}
 use Rattle.ios_tree.specs.declared.item.IosItem.{IosItem}
 use Rattle.ios_tree.specs.declared.item.CommunitySetting.{CommunitySetting}
 use Rattle.ios_tree.specs.declared.item.MapLine.{MapLine}

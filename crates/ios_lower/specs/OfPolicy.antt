@@ -1,7 +1,7 @@
 -- The atoms and changes of a policy: those that its tests and actions give.
 use Rattle.std.specs.Prelude.{◌≡◌, ℕ, Bool, true, List, Some}
 use Rattle.route_types.specs.declared.change.Change.{Change}
-use Rattle.aspath_text.specs.Items.{SomeOf}
+use Rattle.path_patterns.specs.Items.{SomeOf}
 use Rattle.core_nodes.specs.declared.atom.Atom.{Atom}
 use Rattle.core_nodes.specs.declared.node.NodeKind.{NodeKind}
 use Rattle.core_nodes.specs.declared.node.NodeKind.TheVariants.{Test, Do, Stop}

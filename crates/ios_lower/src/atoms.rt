@@ -3,7 +3,7 @@
 ghost use Rattle.std.specs.Prelude.{◌≡◌, ◌∷◌, ℕ, List, IfOk, map};
 ghost use Rattle.std.specs.List.{list_all, AllByRecursion};
 ghost use Rattle.route_types.specs.Route.{RouteParts};
-ghost use Rattle.aspath_text.specs.Items.{IsPath};
+ghost use Rattle.path_patterns.specs.Items.{IsPath};
 ghost use Rattle.core_nodes.specs.Atoms.{atom_holds};
 ghost use Rattle.ios_meaning.specs.Meaning.{line_holds};
 ghost use Rattle.ios_meaning.specs.Lists.{single, prefix_list, test_of, community_list, path_list};

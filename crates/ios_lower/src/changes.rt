@@ -1,7 +1,7 @@
 //! The changes of the set lines of an entry.
 
 ghost use Rattle.std.specs.Prelude.{◌≡◌, ◌<◌, ◌^◌, ◌∷◌, [], List, true, false, IfOk, map, reverse};
-ghost use Rattle.aspath_text.specs.Items.{IsPath};
+ghost use Rattle.path_patterns.specs.Items.{IsPath};
 ghost use Rattle.ios_meaning.specs.Meaning.{deletes};
 ghost use Rattle.ios_meaning.specs.Drafts.{deletes_as};
 ghost use Rattle.ios_tree.specs.declared.item.IosItem.{IosItem};

@@ -1,12 +1,12 @@
 -- Worked examples of path lists that the checker computes.
 use Rattle.std.proofs.Common.{◌≡◌, refl, ap, ◌∙◌, ℕ, codes, Bool, true, false, List, [], ◌∷◌, arith}
 use Rattle.std.proofs.lemmas.Fmt.{decimal_digit}
-use Rattle.aspath_text.specs.Search.{path_text}
-use Rattle.aspath_text.specs.Finds.{anything_then, pieces_then, found_in, finds_in}
-use Rattle.aspath_text.specs.declared.pattern.IosBranch.{IosBranch}
-use Rattle.aspath_text.specs.declared.pattern.IosBranch.TheVariants.{EmptyPath, Pieces}
-use Rattle.aspath_text.specs.declared.pattern.Mark.TheVariants.{Nothing}
-use Rattle.aspath_text.specs.declared.pattern.Piece.TheVariants.{Anything}
+use Rattle.path_patterns.specs.Search.{path_text}
+use Rattle.path_patterns.specs.Finds.{anything_then, pieces_then, found_in, finds_in}
+use Rattle.path_patterns.specs.declared.pattern.IosBranch.{IosBranch}
+use Rattle.path_patterns.specs.declared.pattern.IosBranch.TheVariants.{EmptyPath, Pieces}
+use Rattle.path_patterns.specs.declared.pattern.Mark.TheVariants.{Nothing}
+use Rattle.path_patterns.specs.declared.pattern.Piece.TheVariants.{Anything}
 use Rattle.ios_tree.specs.declared.item.PathListEntry.{PathListEntry}
 use Rattle.ios_meaning.specs.Lists.{path_answers}
 

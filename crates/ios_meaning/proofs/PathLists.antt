@@ -1,7 +1,7 @@
 -- The walk that keeps the first answer of each path list finds what the lists answer.
 use Rattle.std.proofs.Common.{◌≡◌, refl, sym, ap, ◌∙◌, ℕ, Bool, true, false, List, [], ◌∷◌, Option, Some, None}
 use Rattle.std.specs.Prelude.{bytes_eq, unwrap_or}
-use Rattle.aspath_text.specs.Finds.{finds_in}
+use Rattle.path_patterns.specs.Finds.{finds_in}
 use Rattle.name_maps.specs.Under.{first_of}
 use Rattle.name_maps.specs.declared.map.NameMap.{NameMap}
 use Rattle.ios_tree.specs.declared.item.PathListEntry.{PathListEntry}

@@ -11,7 +11,7 @@ use Rattle.route_types.specs.declared.route.NextHop.TheVariants.{At, Own}
 use Rattle.prefix_sets.specs.Range.{in_range}
 use Rattle.prefix_sets.specs.FirstMatch.{first_match}
 use Rattle.community_sets.specs.Tests.{test_holds, list_answers}
-use Rattle.aspath_text.specs.Finds.{finds_in}
+use Rattle.path_patterns.specs.Finds.{finds_in}
 use Rattle.ios_tree.specs.declared.item.PrefixListEntry.{PrefixListEntry}
 use Rattle.ios_tree.specs.declared.item.IosForm.{IosForm}
 use Rattle.ios_tree.specs.declared.item.IosForm.TheVariants.{PrefixEntry as OfPrefixList, CommunityEntry as OfCommunityList, PathEntry as OfPathList}

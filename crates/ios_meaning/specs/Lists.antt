@@ -9,7 +9,7 @@ use Rattle.prefix_sets.specs.declared.list.PrefixEntry.{PrefixEntry}
 use Rattle.community_sets.specs.declared.list.CommTest.{CommTest}
 use Rattle.community_sets.specs.declared.list.CommTest.TheVariants.{AllOf, Exactly}
 use Rattle.community_sets.specs.declared.list.CommEntry.{CommEntry}
-use Rattle.aspath_text.specs.Finds.{finds_in}
+use Rattle.path_patterns.specs.Finds.{finds_in}
 use Rattle.ios_tree.specs.Tree.{is_of_list}
 use Rattle.ios_tree.specs.declared.item.CommunityShape.{CommunityShape}
 use Rattle.ios_tree.specs.declared.item.CommunityShape.TheVariants.{Standard, Expanded}

@@ -4,7 +4,7 @@ use Rattle.std.specs.Prelude.{Some, None, Option, codes, map}
 use Rattle.text_words.specs.declared.statement.Span.{Span}
 use Rattle.policy_text.specs.declared.fault.Cause.{Cause}
 use Rattle.policy_text.specs.declared.fault.Cause.TheVariants.{UnknownForm, DefinedTwice, SequenceTwice, Undefined, SameKindTwice, BackwardContinue, DenyContinue, UnsettledTest, ExactExpanded}
-use Rattle.aspath_text.specs.declared.pattern.IosBranch.TheVariants.{EmptyPath}
+use Rattle.path_patterns.specs.declared.pattern.IosBranch.TheVariants.{EmptyPath}
 use Rattle.policy_text.specs.Causes.{first_cause, first_fault_from}
 use Rattle.ios_reader.specs.Profile.{first_fault, first_fault_within}
 use Rattle.ios_tree.specs.declared.item.IosForm.{IosForm}

@@ -9,7 +9,7 @@ use Rattle.policy_text.specs.Names.{first_some}
 use Rattle.policy_text.specs.Bounds.{bounds_in}
 use Rattle.policy_text.specs.Phrases.{after, behind, only, value_at, first_of, optional, some_each, name_in}
 use Rattle.aspath_text.specs.IosRead.{ios_pattern_in}
-use Rattle.aspath_text.specs.declared.pattern.IosBranch.{IosBranch}
+use Rattle.path_patterns.specs.declared.pattern.IosBranch.{IosBranch}
 use Rattle.ios_tree.specs.Names.{list_in, numbered_list_in, permit_in, community_word_in, shape_in, origin_in}
 use Rattle.ios_tree.specs.declared.item.IosForm.{IosForm}
 use Rattle.ios_tree.specs.declared.item.IosForm.TheVariants.{PrefixEntry, PrefixDescription, CommunityEntry, PathEntry, MapHeader}

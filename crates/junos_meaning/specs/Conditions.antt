@@ -13,8 +13,8 @@ use Rattle.route_types.specs.declared.route.Origin.TheVariants.{Igp, Egp, Incomp
 use Rattle.prefix_sets.specs.Range.{RangeParts}
 use Rattle.prefix_sets.specs.LongestMatch.{longest_match, same_prefix}
 use Rattle.community_sets.specs.Tests.{all_fitted}
-use Rattle.aspath_text.specs.PathMatches.{path_matches}
-use Rattle.aspath_text.specs.declared.items.TokenPattern.{TokenPattern}
+use Rattle.path_patterns.specs.PathMatches.{path_matches}
+use Rattle.path_patterns.specs.declared.items.TokenPattern.{TokenPattern}
 use Rattle.junos_tree.specs.declared.item.Condition.{Condition}
 use Rattle.junos_tree.specs.declared.item.Condition.TheVariants.{Protocol, Community, AsPath, NextHop, PrefixList, RouteFilter, ListFilter, Metric, LocalPreference, Origin}
 use Rattle.junos_tree.specs.declared.item.JunosForm.{JunosForm}

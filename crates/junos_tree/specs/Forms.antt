@@ -4,7 +4,7 @@ use Rattle.route_types.specs.Community.{RectParts}
 use Rattle.route_types.specs.RouteLines.{origin_in}
 use Rattle.route_types.specs.Words.{◌>>=◌, number_in, prefix_in, address_in}
 use Rattle.prefix_sets.specs.Range.{RangeParts}
-use Rattle.aspath_text.specs.declared.items.TokenPattern.{TokenPattern}
+use Rattle.path_patterns.specs.declared.items.TokenPattern.{TokenPattern}
 use Rattle.text_words.specs.declared.statement.Ender.{Ender}
 use Rattle.text_words.specs.declared.statement.Ender.TheVariants.{Semi, Open}
 use Rattle.policy_text.specs.Names.{first_some}

@@ -11,7 +11,7 @@ use Rattle.route_types.specs.declared.route.NextHop.TheVariants.{At, Own}
 use Rattle.aspath_text.specs.IosGrammar.{joined_by}
 use Rattle.aspath_text.specs.JunosGrammar.{SpellsJunos}
 use Rattle.aspath_text.specs.JunosRead.{junos_pattern_in}
-use Rattle.aspath_text.specs.declared.items.TokenPattern.{TokenPattern}
+use Rattle.path_patterns.specs.declared.items.TokenPattern.{TokenPattern}
 use Rattle.policy_text.specs.Halves.{known_rects, number_or_all, halves_in}
 use Rattle.policy_text.specs.Names.{first_some}
 use Rattle.policy_text.specs.Phrases.{AreSome, IsOneOf, one_of, some_each}

@@ -1,7 +1,7 @@
 -- Numbers of one letter lead threads alike.
 use Rattle.std.proofs.Common.{◌≡◌, refl, ap, ℕ, ◌-◌, Bool, ◌&&◌, ◌||◌, ◌==◌, List, [], ◌∷◌, ◌++◌, map, Option}
 use Rattle.std.specs.List.{AllByRecursion}
-use Rattle.aspath_text.specs.PathMatches.{has_room, one_fewer, front_fits}
+use Rattle.path_patterns.specs.PathMatches.{has_room, one_fewer, front_fits}
 use Rattle.path_classes.specs.Lines.{turn_holds, turns_take}
 use Rattle.path_classes.specs.Letters.{turn_tests, signature}
 use Rattle.path_classes.specs.Threads.{turns_at, goes_on, stage_takes, says}

@@ -3,9 +3,9 @@ use Rattle.std.proofs.Common.{◌≡◌, refl, sym, ap, ◌∙◌, subst, ℕ, z
 use Rattle.std.specs.List.{IsDistinct}
 use Rattle.std.proofs.lemmas.List.{append-nil, same_lists}
 use Rattle.std.proofs.lemmas.Option.{same_Some, slice_get_within, get_or_from_slice_get}
-use Rattle.aspath_text.specs.Items.{IsPath}
-use Rattle.aspath_text.specs.PathMatches.{path_matches}
-use Rattle.aspath_text.specs.declared.items.TokenPattern.{TokenPattern}
+use Rattle.path_patterns.specs.Items.{IsPath}
+use Rattle.path_patterns.specs.PathMatches.{path_matches}
+use Rattle.path_patterns.specs.declared.items.TokenPattern.{TokenPattern}
 use Rattle.path_classes.specs.Lines.{AreSound, line_view, views_from}
 use Rattle.path_classes.specs.Letters.{CutsAll}
 use Rattle.path_classes.specs.Threads.{says}

@@ -6,7 +6,7 @@ use Rattle.std.proofs.lemmas.Bool.{cases_lt, le-ltb}
 use Rattle.std.proofs.lemmas.Bool.Decides.{nat_tests}
 use Rattle.std.proofs.lemmas.List.Elements.{Contains-append_left, Contains-append_right}
 use Rattle.std.proofs.lemmas.Option.{slice_get_within}
-use Rattle.aspath_text.specs.Items.{greatest}
+use Rattle.path_patterns.specs.Items.{greatest}
 use Rattle.path_classes.specs.Numbers.{count_below, count_up_to}
 use Rattle.path_classes.specs.Letters.{befores, turn_ends, line_ends, turn_tests, signature, HasLetter, AreLetters, CutsAll}
 use Rattle.path_classes.specs.declared.lines.Turn.{Turn}

@@ -2,7 +2,7 @@
 use Rattle.std.proofs.Common.{◌≡◌, refl, sym, ap, ◌∙◌, subst, ℕ, zero, suc, ◌-◌, ◌<◌, ◌≤◌, ◌^◌, Bool, true, false, List, [], ◌∷◌, ◌++◌, length, drop, take, map, Some, slice_get, get_or, arith, add-one}
 use Rattle.std.proofs.lemmas.List.{map-append, append-nil, length_push, length-drop, take_all}
 use Rattle.std.proofs.lemmas.Option.{same_Some}
-use Rattle.aspath_text.specs.Items.{IsPath}
+use Rattle.path_patterns.specs.Items.{IsPath}
 use Rattle.path_classes.specs.Letters.{signature, AreTold, HasLetter, LetterAdded, AreLetters, AllLettered}
 use Rattle.path_classes.specs.declared.lines.Line.{Line}
 use Rattle.path_classes.proofs.Keys.{get_left, IsPut}

@@ -7,9 +7,9 @@ use Rattle.std.proofs.lemmas.Bool.Decides.{nat_tests}
 use Rattle.std.proofs.lemmas.List.Sums.{sum_by-cons}
 use Rattle.std.proofs.lemmas.List.Sorted.{sum_by-IsPermutation}
 use Rattle.std.proofs.lemmas.List.Kept.{AllPairs-from_increasing}
-use Rattle.aspath_text.specs.Items.{greatest, in_range, in_set}
-use Rattle.aspath_text.specs.declared.items.NumberRange.{NumberRange}
-use Rattle.aspath_text.specs.declared.items.NumberSet.{NumberSet}
+use Rattle.path_patterns.specs.Items.{greatest, in_range, in_set}
+use Rattle.path_patterns.specs.declared.items.NumberRange.{NumberRange}
+use Rattle.path_patterns.specs.declared.items.NumberSet.{NumberSet}
 use Rattle.path_classes.specs.Numbers.{count_below, count_up_to, leasts_of, mosts_of, in_ends, is_whole}
 
 -- ---- counts

@@ -2,7 +2,7 @@
 use Rattle.std.proofs.Common.{◌≡◌, refl, sym, ap, ◌∙◌, subst, ℕ, zero, suc, ◌+◌, ◌<◌, ◌≤◌, ◌^◌, inl, inr, true, false, List, [], ◌∷◌, ◌++◌, length, drop, Option, Some, None, slice_get, get_or, arith, add-one}
 use Rattle.std.proofs.lemmas.List.{append_assoc, append-nil, length_push, length-drop}
 use Rattle.std.proofs.lemmas.Option.{same_Some}
-use Rattle.aspath_text.specs.Items.{IsPath}
+use Rattle.path_patterns.specs.Items.{IsPath}
 use Rattle.path_classes.specs.Lines.{AreSound}
 use Rattle.path_classes.specs.States.{lines_say, Begins, Follows, LeadsTo, AreReached, Grew, IsStep, AreSteps, IsRow, AreRows, longer, HasState, IsStatePut, IsStepAdded, IsState, AddsStep, AddsRow, IsRowAdded, IsExplored}
 use Rattle.path_classes.specs.declared.lines.Line.{Line}

@@ -5,8 +5,8 @@ use Rattle.std.proofs.lemmas.Bool.{and_parts, lt-leb}
 use Rattle.std.proofs.lemmas.List.{drop_at, take-append-drop, length-append, append_assoc}
 use Rattle.std.proofs.lemmas.List.Folds.{list_any-append}
 use Rattle.std.proofs.lemmas.Option.{same_Some}
-use Rattle.aspath_text.specs.Items.{IsPath}
-use Rattle.aspath_text.specs.PathMatches.{no_number, has_room, one_fewer, front_fits, whole_path}
+use Rattle.path_patterns.specs.Items.{IsPath}
+use Rattle.path_patterns.specs.PathMatches.{no_number, has_room, one_fewer, front_fits, whole_path}
 use Rattle.path_classes.specs.Lines.{turn_holds, turns_take, IsSound, AreSoundTurns, AreSound}
 use Rattle.path_classes.specs.Threads.{last_turns, turns_at, goes_on, stage_takes, thread_says, says, stays_always, stay, entered, after, taken_one, next_inside, next_stage, next, starts_from}
 use Rattle.path_classes.specs.Tidy.{SayTheSame}

@@ -3,7 +3,7 @@ use Rattle.std.proofs.Common.{◌≡◌, refl, sym, ap, ◌∙◌, subst, ℕ, �
 use Rattle.std.specs.List.Sorted.{IsPermutation}
 use Rattle.std.proofs.lemmas.Bool.{and_parts, and_from, or_cases, or_left, or_right}
 use Rattle.std.proofs.lemmas.List.Sorted.{list_any-IsPermutation}
-use Rattle.aspath_text.specs.PathMatches.{has_room, one_fewer, front_fits}
+use Rattle.path_patterns.specs.PathMatches.{has_room, one_fewer, front_fits}
 use Rattle.path_classes.specs.Lines.{turn_holds, turns_take}
 use Rattle.path_classes.specs.Threads.{turns_at, goes_on, stage_takes, thread_says, says}
 use Rattle.path_classes.specs.Tidy.{most_within, inside_covers, stage_covers, covers, tidied_from, tidied, SayTheSame}

@@ -4,10 +4,10 @@ use Rattle.std.specs.List.{list_any}
 use Rattle.std.proofs.lemmas.Bool.{eq-eqb}
 use Rattle.std.proofs.lemmas.List.Folds.{list_any-append}
 use Rattle.std.proofs.lemmas.Option.{same_Some}
-use Rattle.aspath_text.specs.Items.{Takes, takes_of}
-use Rattle.aspath_text.specs.PathMatches.{whole_path, path_matches}
-use Rattle.aspath_text.specs.declared.items.TokenBranch.{TokenBranch}
-use Rattle.aspath_text.specs.declared.items.TokenPattern.{TokenPattern}
+use Rattle.path_patterns.specs.Items.{Takes, takes_of}
+use Rattle.path_patterns.specs.PathMatches.{whole_path, path_matches}
+use Rattle.path_patterns.specs.declared.items.TokenBranch.{TokenBranch}
+use Rattle.path_patterns.specs.declared.items.TokenPattern.{TokenPattern}
 use Rattle.path_classes.specs.Lines.{branch_view, line_view, views_from}
 use Rattle.path_classes.specs.States.{view_says, lines_say}
 use Rattle.path_classes.specs.declared.lines.Line.{Line}

@@ -1,8 +1,8 @@
 -- Classes of paths in which patterns answer alike.
 use Rattle.std.specs.Prelude.{◌≡◌, ℕ, ◌<◌, List, Some, ◌↔◌, length, slice_get}
-use Rattle.aspath_text.specs.Items.{IsPath}
-use Rattle.aspath_text.specs.PathMatches.{path_matches}
-use Rattle.aspath_text.specs.declared.items.TokenPattern.{TokenPattern}
+use Rattle.path_patterns.specs.Items.{IsPath}
+use Rattle.path_patterns.specs.PathMatches.{path_matches}
+use Rattle.path_patterns.specs.declared.items.TokenPattern.{TokenPattern}
 use Rattle.path_classes.specs.Walk.{class_in, member_at, answer_at}
 use Rattle.path_classes.specs.declared.classes.Classes.{Classes}
 

@@ -2,7 +2,7 @@
 use Rattle.std.specs.Prelude.{◌≡◌, ℕ, ◌-◌, ◌≤◌, Bool, true, false, nat_lt, List, [], ◌∷◌, ◌++◌, Some, length, map, slice_get}
 use Rattle.std.specs.List.{flat_map}
 use Rattle.std.specs.List.Sorted.{IsNonDecreasing}
-use Rattle.aspath_text.specs.Items.{greatest, IsPath}
+use Rattle.path_patterns.specs.Items.{greatest, IsPath}
 use Rattle.path_classes.specs.Numbers.{HasAllOf}
 use Rattle.path_classes.specs.Lines.{turn_holds}
 use Rattle.path_classes.specs.declared.lines.Turn.{Turn}

@@ -1,10 +1,10 @@
 -- The branches of all patterns in one list, and what they take.
 use Rattle.std.specs.Prelude.{◌≡◌, ℕ, suc, ◌<◌, ◌^◌, Bool, true, List, [], ◌∷◌, ◌++◌, map}
 use Rattle.std.specs.List.{AllByRecursion}
-use Rattle.aspath_text.specs.Items.{Takes, takes_of}
-use Rattle.aspath_text.specs.PathMatches.{whole_path}
-use Rattle.aspath_text.specs.declared.items.TokenBranch.{TokenBranch}
-use Rattle.aspath_text.specs.declared.items.TokenPattern.{TokenPattern}
+use Rattle.path_patterns.specs.Items.{Takes, takes_of}
+use Rattle.path_patterns.specs.PathMatches.{whole_path}
+use Rattle.path_patterns.specs.declared.items.TokenBranch.{TokenBranch}
+use Rattle.path_patterns.specs.declared.items.TokenPattern.{TokenPattern}
 use Rattle.path_classes.specs.Numbers.{in_ends}
 use Rattle.path_classes.specs.declared.lines.Turn.{Turn}
 use Rattle.path_classes.specs.declared.lines.Line.{Line}

@@ -1,9 +1,9 @@
 -- Which numbers the items of patterns don't tell apart: those between which no range begins or ends.
 use Rattle.std.specs.Prelude.{ℕ, Bool, true, false, ◌&&◌, ◌==◌, nat_le, nat_lt, List, [], ◌∷◌, Contains}
 use Rattle.std.specs.List.{list_any, count_by}
-use Rattle.aspath_text.specs.Items.{greatest}
-use Rattle.aspath_text.specs.declared.items.NumberRange.{NumberRange}
-use Rattle.aspath_text.specs.declared.items.NumberSet.{NumberSet}
+use Rattle.path_patterns.specs.Items.{greatest}
+use Rattle.path_patterns.specs.declared.items.NumberRange.{NumberRange}
+use Rattle.path_patterns.specs.declared.items.NumberSet.{NumberSet}
 
 -- how many of the numbers lie below n
 abbrev pub count_below : ℕ → List ℕ → ℕ

@@ -1,8 +1,8 @@
 -- States: the threads of a path, and where numbers lead.
 use Rattle.std.specs.Prelude.{◌≡◌, ℕ, ◌≤◌, ◌⊎◌, Bool, ◌&&◌, ◌==◌, List, [], ◌∷◌, ◌++◌, Some, None, map, length, slice_get}
 use Rattle.std.specs.List.{list_any}
-use Rattle.aspath_text.specs.Items.{IsPath, Takes}
-use Rattle.aspath_text.specs.PathMatches.{whole_path}
+use Rattle.path_patterns.specs.Items.{IsPath, Takes}
+use Rattle.path_patterns.specs.PathMatches.{whole_path}
 use Rattle.path_classes.specs.Lines.{line_view, AreSound}
 use Rattle.path_classes.specs.Threads.{says}
 use Rattle.path_classes.specs.declared.lines.Line.{Line}

@@ -1,7 +1,7 @@
 -- How far a path has come in a line: what it may still be followed by, and where a number leads.
 use Rattle.std.specs.Prelude.{ℕ, suc, ◌-◌, Bool, true, false, ◌&&◌, ◌==◌, nat_lt, List, [], ◌∷◌, ◌++◌, Option, Some, None, length, drop, slice_get, is_none}
 use Rattle.std.specs.List.{list_any}
-use Rattle.aspath_text.specs.PathMatches.{no_number, has_room, one_fewer, front_fits}
+use Rattle.path_patterns.specs.PathMatches.{no_number, has_room, one_fewer, front_fits}
 use Rattle.path_classes.specs.Lines.{turn_holds, turns_take}
 use Rattle.path_classes.specs.declared.lines.Turn.{Turn}
 use Rattle.path_classes.specs.declared.lines.Line.{Line}

@@ -1,7 +1,7 @@
 // Letters: numbers that no item tells apart are one letter.
 ghost use Rattle.std.specs.Prelude.{◌≡◌, ◌++◌, ◌∷◌, ◌-◌, ◌<◌, ◌^◌, ℕ, List, IfOk, OnOk, length, map};
 ghost use Rattle.std.specs.List.{flat_map};
-ghost use Rattle.aspath_text.specs.Items.{greatest, IsPath};
+ghost use Rattle.path_patterns.specs.Items.{greatest, IsPath};
 ghost use Rattle.path_classes.specs.Letters.{befores, turn_ends, line_ends, all_ends, turn_tests, signature, AreTold, LetterAdded, AllLettered, CutsAll};
 
 use crate::lines::{Line, Turn};

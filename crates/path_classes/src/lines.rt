@@ -1,6 +1,6 @@
 // The branches of all patterns in one list, each with the place of its pattern.
 ghost use Rattle.std.specs.Prelude.{◌≡◌, ◌++◌, ◌+◌, ℕ, true, IfOk, OnOk, length, map};
-ghost use Rattle.aspath_text.specs.Items.{takes_of};
+ghost use Rattle.path_patterns.specs.Items.{takes_of};
 ghost use Rattle.path_classes.specs.Lines.{turn_takes, line_view, branch_view, views_from, AreSound, AreSoundTurns, IsSound};
 
 use crate::ranges::{RangeEnds, is_whole};

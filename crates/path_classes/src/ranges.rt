@@ -1,7 +1,7 @@
 // The numbers of an item, by the ends of its ranges: a number is in the set where more ranges begin up to it than end
 // below it.
 ghost use Rattle.std.specs.Prelude.{◌≡◌, ◌++◌, ◌<◌, ◌^◌, ℕ, true, IfOk, OnOk};
-ghost use Rattle.aspath_text.specs.Items.{in_range, in_set};
+ghost use Rattle.path_patterns.specs.Items.{in_range, in_set};
 ghost use Rattle.path_classes.specs.Numbers.{in_ends, leasts_of, mosts_of, is_whole};
 
 use crate::numbers::Sorted;

@@ -1,6 +1,6 @@
 // How far a path has come in a line: threads, and where a number leads one.
 ghost use Rattle.std.specs.Prelude.{◌≡◌, ◌++◌, ◌-◌, ◌<◌, ◌^◌, ◌==◌, ◌∷◌, [], IfOk, OnOk, length};
-ghost use Rattle.aspath_text.specs.PathMatches.{has_room, one_fewer};
+ghost use Rattle.path_patterns.specs.PathMatches.{has_room, one_fewer};
 ghost use Rattle.path_classes.specs.Threads.{turns_at, last_turns, stays_always, stay, entered, after, next_inside, next, starts_from};
 
 use crate::lines::{Line, Turn};

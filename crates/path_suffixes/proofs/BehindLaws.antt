@@ -2,12 +2,12 @@
 use Rattle.std.proofs.Common.{◌≡◌, refl, sym, ap, ◌∙◌, ℕ, ◌-◌, ◌↔◌, Bool, true, false, ◌&&◌, ◌||◌, List, [], ◌∷◌, ◌++◌, map}
 use Rattle.std.specs.List.{list_any}
 use Rattle.std.proofs.lemmas.List.Folds.{list_any-append}
-use Rattle.aspath_text.specs.Items.{in_set, takes_of, Matches}
-use Rattle.aspath_text.specs.PathMatches.{has_room, one_fewer, front_fits, whole_path, path_matches}
-use Rattle.aspath_text.specs.declared.items.TokenItem.{TokenItem}
-use Rattle.aspath_text.specs.declared.items.TokenBranch.{TokenBranch}
-use Rattle.aspath_text.specs.declared.items.TokenPattern.{TokenPattern}
-use Rattle.aspath_text.proofs.PathMatches.{path_decides}
+use Rattle.path_patterns.specs.Items.{in_set, takes_of, Matches}
+use Rattle.path_patterns.specs.PathMatches.{has_room, one_fewer, front_fits, whole_path, path_matches}
+use Rattle.path_patterns.specs.declared.items.TokenItem.{TokenItem}
+use Rattle.path_patterns.specs.declared.items.TokenBranch.{TokenBranch}
+use Rattle.path_patterns.specs.declared.items.TokenPattern.{TokenPattern}
+use Rattle.path_patterns.proofs.PathMatches.{path_decides}
 use Rattle.path_suffixes.specs.Behind.{may_take, may_pass, one_taken, taken_first, items_behind, branches_behind, pattern_behind, pattern_behind_all}
 
 -- some branch takes the whole path

@@ -1,9 +1,9 @@
 -- Worked examples that the checker computes.
 use Rattle.std.proofs.Common.{◌≡◌, refl, ℕ, List, [], ◌∷◌, Some, None, true, false}
-use Rattle.aspath_text.specs.Items.{greatest}
-use Rattle.aspath_text.specs.PathMatches.{path_matches, whole_path, front_fits}
-use Rattle.aspath_text.specs.declared.items.TokenItem.{TokenItem}
-use Rattle.aspath_text.specs.declared.items.TokenPattern.{TokenPattern}
+use Rattle.path_patterns.specs.Items.{greatest}
+use Rattle.path_patterns.specs.PathMatches.{path_matches, whole_path, front_fits}
+use Rattle.path_patterns.specs.declared.items.TokenItem.{TokenItem}
+use Rattle.path_patterns.specs.declared.items.TokenPattern.{TokenPattern}
 use Rattle.path_suffixes.specs.Behind.{items_behind, branches_behind, pattern_behind, pattern_behind_all}
 
 -- one number, once

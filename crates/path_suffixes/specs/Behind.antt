@@ -1,11 +1,11 @@
 -- What a pattern of items still asks behind a number that is put before the path (Junos OS Routing Policies User Guide,
 -- 'AS path regular expressions'): the items that can take the number are left with one less to take.
 use Rattle.std.specs.Prelude.{ℕ, ◌-◌, Bool, true, false, ◌&&◌, nat_le, List, [], ◌∷◌, ◌++◌}
-use Rattle.aspath_text.specs.Items.{in_set}
-use Rattle.aspath_text.specs.PathMatches.{has_room, one_fewer}
-use Rattle.aspath_text.specs.declared.items.TokenItem.{TokenItem}
-use Rattle.aspath_text.specs.declared.items.TokenBranch.{TokenBranch}
-use Rattle.aspath_text.specs.declared.items.TokenPattern.{TokenPattern}
+use Rattle.path_patterns.specs.Items.{in_set}
+use Rattle.path_patterns.specs.PathMatches.{has_room, one_fewer}
+use Rattle.path_patterns.specs.declared.items.TokenItem.{TokenItem}
+use Rattle.path_patterns.specs.declared.items.TokenBranch.{TokenBranch}
+use Rattle.path_patterns.specs.declared.items.TokenPattern.{TokenPattern}
 
 -- the item may take the number
 abbrev pub may_take : ℕ → TokenItem → Bool

@@ -1,7 +1,7 @@
 // What a pattern asks of a path before numbers are put in front of it.
 ghost use Rattle.std.specs.Prelude.{◌≡◌, ◌∷◌, ◌++◌, ◌-◌, ◌↔◌, ℕ, List, IfOk};
-ghost use Rattle.aspath_text.specs.Items.{Matches};
-ghost use Rattle.aspath_text.specs.PathMatches.{has_room, one_fewer, path_matches};
+ghost use Rattle.path_patterns.specs.Items.{Matches};
+ghost use Rattle.path_patterns.specs.PathMatches.{has_room, one_fewer, path_matches};
 ghost use Rattle.path_suffixes.specs.Behind.{may_take, one_taken, taken_first, items_behind, branches_behind, pattern_behind, pattern_behind_all};
 
 use aspath_text::{TokenBranch, TokenItem, TokenPattern};

@@ -8,7 +8,7 @@ use Rattle.community_sets.specs.Tests.{list_answers}
 use Rattle.community_sets.specs.declared.list.CommList.{CommList}
 use Rattle.community_cuts.specs.Earlier.{behind}
 use Rattle.community_cuts.specs.Kept.{some_permits, ListsBefore}
-use Rattle.aspath_text.specs.PathMatches.{path_matches}
+use Rattle.path_patterns.specs.PathMatches.{path_matches}
 use Rattle.path_suffixes.specs.Behind.{pattern_behind_all}
 use Rattle.path_suffixes.proofs.BehindLaws.{matches_behind_all}
 use Rattle.pending_changes.specs.Pending.{set_or, communities_behind, route_behind}

@@ -2,9 +2,9 @@
 use Rattle.std.proofs.Common.{◌≡◌, refl, ap, ◌∙◌, ℕ, Bool, true, false, ◌&&◌, ◌||◌, not, ◌==◌, List, [], ◌∷◌, length, map, Option, Some, None, arith, ne_eqb}
 use Rattle.std.specs.Bool.{beq}
 use Rattle.std.specs.List.{list_any, list_all, AllByRecursion}
-use Rattle.aspath_text.specs.Finds.{finds_in, found_in}
+use Rattle.path_patterns.specs.Finds.{finds_in, found_in}
 use Rattle.aspath_text.specs.IosRead.{ios_pattern_in}
-use Rattle.aspath_text.specs.declared.pattern.IosBranch.{IosBranch}
+use Rattle.path_patterns.specs.declared.pattern.IosBranch.{IosBranch}
 use Rattle.prefix_sets.specs.Range.{RangeParts, in_range}
 use Rattle.route_types.specs.Address.{PrefixParts, full_prefix}
 use Rattle.route_types.specs.Community.{RectParts}

@@ -4,7 +4,7 @@ use Rattle.std.specs.Prelude.{◌≡◌, ℕ, ◌+◌, ◌^◌, ◌<◌, List, [
 use Rattle.route_types.specs.Community.{RectParts}
 use Rattle.prefix_sets.specs.Range.{RangeParts}
 use Rattle.aspath_text.specs.IosRead.{ios_pattern_in}
-use Rattle.aspath_text.specs.declared.pattern.IosBranch.{IosBranch}
+use Rattle.path_patterns.specs.declared.pattern.IosBranch.{IosBranch}
 use Rattle.rpl_words.specs.declared.condition.RplTest.{RplTest}
 use Rattle.rpl_words.specs.declared.condition.RplTest.TheVariants.{Destination as OfDestination, NextHop as OfNextHop, PathIn as OfPath, MatchesAny as OfAny, MatchesEvery as OfEvery, IsEmpty, Med, Origin as OfOrigin}
 use Rattle.rpl_words.specs.declared.element.Comparison.TheVariants.{Equal, AtLeast, AtMost}

@@ -12,7 +12,7 @@ use Rattle.route_types.specs.declared.route.NextHop.TheVariants.{At, Own}
 use Rattle.route_types.specs.declared.route.Origin.{Origin as RouteOrigin}
 use Rattle.route_types.specs.declared.route.Origin.TheVariants.{Igp, Egp, Incomplete}
 use Rattle.prefix_sets.specs.Range.{RangeParts, in_range}
-use Rattle.aspath_text.specs.Finds.{finds_in}
+use Rattle.path_patterns.specs.Finds.{finds_in}
 use Rattle.rpl_words.specs.Conditions.{Condition, Asks as OfTest, Grouped, Negated, Both, Either}
 use Rattle.rpl_words.specs.declared.condition.RplTest.{RplTest}
 use Rattle.rpl_words.specs.declared.condition.RplTest.TheVariants.{Destination, NextHop, PathIn, Path, MatchesAny, MatchesEvery, IsEmpty, Med, Origin}

@@ -3,21 +3,21 @@ use Rattle.std.proofs.Common.{◌≡◌, refl, ap, ◌∙◌, ℕ, Bool, true, f
 use Rattle.std.specs.Bool.{Decides}
 use Rattle.std.specs.List.{list_any}
 use Rattle.std.proofs.lemmas.Bool.{false_from_ne_true}
-use Rattle.aspath_text.specs.Finds.{finds_in}
-use Rattle.aspath_text.specs.Items.{IsPath}
-use Rattle.aspath_text.specs.PathMatches.{path_matches}
+use Rattle.path_patterns.specs.Finds.{finds_in}
+use Rattle.path_patterns.specs.Items.{IsPath}
+use Rattle.path_patterns.specs.PathMatches.{path_matches}
 use Rattle.aspath_text.specs.Printing.{PrintsIos}
-use Rattle.aspath_text.specs.declared.items.TokenPattern.{TokenPattern}
-use Rattle.aspath_text.specs.declared.pattern.IosBranch.{IosBranch}
+use Rattle.path_patterns.specs.declared.items.TokenPattern.{TokenPattern}
+use Rattle.path_patterns.specs.declared.pattern.IosBranch.{IosBranch}
 use Rattle.route_types.specs.Route.{RouteParts}
 use Rattle.rpl_plans.specs.Choices.{first_choice, first_or}
 use Rattle.rpl_plans.specs.Fits.{FitsText}
 use Rattle.rpl_plans.specs.Holds.{text_finds}
 use Rattle.rpl_plans.specs.declared.choice.Choice.{Choice}
 use Rattle.rpl_plans.specs.declared.test.PlannedTest.{PlannedTest}
-use Rattle.aspath_text.proofs.FindsFound.{finds_in_decides}
+use Rattle.path_patterns.proofs.FindsFound.{finds_in_decides}
 use Rattle.aspath_text.proofs.IosReadSpelled.{ios_pattern_only}
-use Rattle.aspath_text.proofs.PathMatches.{path_decides}
+use Rattle.path_patterns.proofs.PathMatches.{path_decides}
 use Rattle.rpl_plans.proofs.EntryLaws.{same_answers}
 
 module _ (holds : PlannedTest → Bool) where

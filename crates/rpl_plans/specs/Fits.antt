@@ -8,7 +8,7 @@ use Rattle.route_types.specs.declared.community.CommChange.{CommChange}
 use Rattle.route_types.specs.declared.community.Community.{Community}
 use Rattle.prefix_sets.specs.Range.{RangeParts}
 use Rattle.aspath_text.specs.IosRead.{ios_pattern_in}
-use Rattle.aspath_text.specs.declared.pattern.IosBranch.{IosBranch}
+use Rattle.path_patterns.specs.declared.pattern.IosBranch.{IosBranch}
 use Rattle.policy_core.specs.Sayable.{hop_in_range}
 use Rattle.rpl_plans.specs.declared.actions.PlannedActions.{PlannedActions}
 use Rattle.rpl_plans.specs.declared.choice.Choice.{Choice}

@@ -10,11 +10,11 @@ use Rattle.route_types.specs.declared.route.Origin.{Origin}
 use Rattle.route_types.specs.declared.route.Origin.TheVariants.{Igp, Egp, Incomplete}
 use Rattle.prefix_sets.specs.Range.{RangeParts, in_range}
 use Rattle.community_sets.specs.Tests.{all_fitted}
-use Rattle.aspath_text.specs.Finds.{finds_in}
+use Rattle.path_patterns.specs.Finds.{finds_in}
 use Rattle.aspath_text.specs.IosRead.{ios_pattern_in}
-use Rattle.aspath_text.specs.Items.{IsPath}
-use Rattle.aspath_text.specs.PathMatches.{path_matches}
-use Rattle.aspath_text.specs.declared.items.TokenPattern.{TokenPattern}
+use Rattle.path_patterns.specs.Items.{IsPath}
+use Rattle.path_patterns.specs.PathMatches.{path_matches}
+use Rattle.path_patterns.specs.declared.items.TokenPattern.{TokenPattern}
 use Rattle.rpl_plans.specs.declared.test.PlannedTest.{PlannedTest}
 use Rattle.rpl_plans.specs.declared.test.PlannedTest.TheVariants.{Destination, NextHop as AsksNextHop, PathIn, MatchesAny, MatchesEvery, NoCommunity, MedIs, MedAtLeast, MedAtMost, Origin as AsksOrigin}
 

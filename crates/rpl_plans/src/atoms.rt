@@ -1,7 +1,7 @@
 // The terms of a test: those of each of its lists, in order.
 ghost use Rattle.std.specs.Prelude.{◌≡◌, ◌||◌, ◌==◌, true, IfOk};
 ghost use Rattle.std.specs.List.{list_any, list_all, AllByRecursion};
-ghost use Rattle.aspath_text.specs.Items.{IsPath};
+ghost use Rattle.path_patterns.specs.Items.{IsPath};
 ghost use Rattle.community_sets.specs.Tests.{list_answers};
 ghost use Rattle.core_nodes.specs.Atoms.{path_answers, atom_holds};
 ghost use Rattle.policy_core.specs.Ranges.{list_in_range};

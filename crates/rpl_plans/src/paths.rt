@@ -1,8 +1,8 @@
 // The entries of path lists as what conditions ask: each by the text of its pattern as an IOS pattern.
 ghost use Rattle.std.specs.Prelude.{◌≡◌, Bool, true, false, IfOk};
 ghost use Rattle.std.specs.List.{AllByRecursion};
-ghost use Rattle.aspath_text.specs.Items.{IsPath};
-ghost use Rattle.aspath_text.specs.PathMatches.{path_matches};
+ghost use Rattle.path_patterns.specs.Items.{IsPath};
+ghost use Rattle.path_patterns.specs.PathMatches.{path_matches};
 ghost use Rattle.core_nodes.specs.Atoms.{path_answers};
 ghost use Rattle.route_types.specs.Route.{RouteParts};
 ghost use Rattle.rpl_plans.specs.Choices.{first_or};

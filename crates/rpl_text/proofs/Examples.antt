@@ -6,11 +6,11 @@ use Rattle.route_types.specs.Print.{prefix_text}
 use Rattle.route_types.specs.declared.address.Family.TheVariants.{V4}
 use Rattle.text_words.specs.Pieces.{pieces_text}
 use Rattle.text_words.specs.RplText.{rpl_text}
-use Rattle.aspath_text.specs.declared.pattern.IosBranch.TheVariants.{Pieces}
-use Rattle.aspath_text.specs.declared.pattern.Mark.TheVariants.{Under, Anchor}
-use Rattle.aspath_text.specs.declared.pattern.Piece.TheVariants.{Set}
-use Rattle.aspath_text.specs.declared.pattern.DigitWord.TheVariants.{Digits}
-use Rattle.aspath_text.specs.declared.pattern.DigitSet.{DigitSet}
+use Rattle.path_patterns.specs.declared.pattern.IosBranch.TheVariants.{Pieces}
+use Rattle.path_patterns.specs.declared.pattern.Mark.TheVariants.{Under, Anchor}
+use Rattle.path_patterns.specs.declared.pattern.Piece.TheVariants.{Set}
+use Rattle.path_patterns.specs.declared.pattern.DigitWord.TheVariants.{Digits}
+use Rattle.path_patterns.specs.declared.pattern.DigitSet.{DigitSet}
 use Rattle.aspath_text.specs.IosText.{first_in}
 use Rattle.rpl_words.specs.declared.condition.RplTest.TheVariants.{Destination, Med}
 use Rattle.rpl_words.specs.declared.condition.Term.{Term}

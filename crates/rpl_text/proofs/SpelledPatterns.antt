@@ -8,23 +8,23 @@ use Rattle.route_types.specs.RouteText.{Each}
 use Rattle.text_words.specs.RplText.{is_quotable}
 use Rattle.aspath_text.specs.IosGrammar.{joined_by, repeat_sign, left_text, right_text, DigitRun, SpellsRun, SpellsClass, SpellsDigitSet, SpellsWord, SpellsSet, SpellsTail, SpellsPiece, SpellsBranch, SpellsPattern}
 use Rattle.aspath_text.specs.IosText.{first_in, least_digit, greatest_digit, run_text}
-use Rattle.aspath_text.specs.PathItems.{has_digit}
-use Rattle.aspath_text.specs.RangeWords.{run_of, IsRun}
-use Rattle.aspath_text.specs.Shape.{IsDigitSet, IsDigitWord, AreDigitWords, IsTail, IsPiece, IsBranch, IsShaped}
-use Rattle.aspath_text.specs.declared.pattern.IosBranch.{IosBranch}
-use Rattle.aspath_text.specs.declared.pattern.IosBranch.TheVariants.{EmptyPath, Pieces}
-use Rattle.aspath_text.specs.declared.pattern.Mark.{Mark}
-use Rattle.aspath_text.specs.declared.pattern.Mark.TheVariants.{Anchor, Under, Nothing}
-use Rattle.aspath_text.specs.declared.pattern.Piece.{Piece}
-use Rattle.aspath_text.specs.declared.pattern.Piece.TheVariants.{Anything, Set}
-use Rattle.aspath_text.specs.declared.pattern.DigitWord.{DigitWord}
-use Rattle.aspath_text.specs.declared.pattern.DigitWord.TheVariants.{Any, Digits}
-use Rattle.aspath_text.specs.declared.pattern.DigitSet.{DigitSet}
-use Rattle.aspath_text.specs.declared.pattern.Repeat.{Repeat}
-use Rattle.aspath_text.specs.declared.pattern.Repeat.TheVariants.{Star, Plus, Maybe}
-use Rattle.aspath_text.specs.declared.pattern.Tail.{Tail}
+use Rattle.path_patterns.specs.PathItems.{has_digit}
+use Rattle.path_patterns.specs.RangeWords.{run_of, IsRun}
+use Rattle.path_patterns.specs.Shape.{IsDigitSet, IsDigitWord, AreDigitWords, IsTail, IsPiece, IsBranch, IsShaped}
+use Rattle.path_patterns.specs.declared.pattern.IosBranch.{IosBranch}
+use Rattle.path_patterns.specs.declared.pattern.IosBranch.TheVariants.{EmptyPath, Pieces}
+use Rattle.path_patterns.specs.declared.pattern.Mark.{Mark}
+use Rattle.path_patterns.specs.declared.pattern.Mark.TheVariants.{Anchor, Under, Nothing}
+use Rattle.path_patterns.specs.declared.pattern.Piece.{Piece}
+use Rattle.path_patterns.specs.declared.pattern.Piece.TheVariants.{Anything, Set}
+use Rattle.path_patterns.specs.declared.pattern.DigitWord.{DigitWord}
+use Rattle.path_patterns.specs.declared.pattern.DigitWord.TheVariants.{Any, Digits}
+use Rattle.path_patterns.specs.declared.pattern.DigitSet.{DigitSet}
+use Rattle.path_patterns.specs.declared.pattern.Repeat.{Repeat}
+use Rattle.path_patterns.specs.declared.pattern.Repeat.TheVariants.{Star, Plus, Maybe}
+use Rattle.path_patterns.specs.declared.pattern.Tail.{Tail}
 use Rattle.aspath_text.proofs.JoinedLaws.{joined_behind}
-use Rattle.aspath_text.proofs.Lists.{each_spelled}
+use Rattle.path_patterns.proofs.Lists.{each_spelled}
 use Rattle.aspath_text.proofs.RunText.{digit_set_spelled}
 use Rattle.rpl_text.specs.Patterns.{all_digits, digits_of, is_run, between, set_text, word_text, words_text, tail_text, piece_text, branch_text, pattern_text}
 

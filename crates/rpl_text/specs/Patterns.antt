@@ -3,15 +3,15 @@ use Rattle.std.specs.Prelude.{ℕ, ◌+◌, Bool, cond, ◌||◌, nat_lt, List, 
 use Rattle.std.specs.List.{list_all}
 use Rattle.aspath_text.specs.IosGrammar.{repeat_sign, left_text, right_text}
 use Rattle.aspath_text.specs.IosText.{least_digit, greatest_digit, run_text}
-use Rattle.aspath_text.specs.PathItems.{has_digit}
-use Rattle.aspath_text.specs.declared.pattern.IosBranch.{IosBranch}
-use Rattle.aspath_text.specs.declared.pattern.IosBranch.TheVariants.{EmptyPath, Pieces}
-use Rattle.aspath_text.specs.declared.pattern.Piece.{Piece}
-use Rattle.aspath_text.specs.declared.pattern.Piece.TheVariants.{Anything, Set}
-use Rattle.aspath_text.specs.declared.pattern.DigitWord.{DigitWord}
-use Rattle.aspath_text.specs.declared.pattern.DigitWord.TheVariants.{Any, Digits}
-use Rattle.aspath_text.specs.declared.pattern.DigitSet.{DigitSet}
-use Rattle.aspath_text.specs.declared.pattern.Tail.{Tail}
+use Rattle.path_patterns.specs.PathItems.{has_digit}
+use Rattle.path_patterns.specs.declared.pattern.IosBranch.{IosBranch}
+use Rattle.path_patterns.specs.declared.pattern.IosBranch.TheVariants.{EmptyPath, Pieces}
+use Rattle.path_patterns.specs.declared.pattern.Piece.{Piece}
+use Rattle.path_patterns.specs.declared.pattern.Piece.TheVariants.{Anything, Set}
+use Rattle.path_patterns.specs.declared.pattern.DigitWord.{DigitWord}
+use Rattle.path_patterns.specs.declared.pattern.DigitWord.TheVariants.{Any, Digits}
+use Rattle.path_patterns.specs.declared.pattern.DigitSet.{DigitSet}
+use Rattle.path_patterns.specs.declared.pattern.Tail.{Tail}
 
 -- the ten digits
 abbrev pub all_digits : List ℕ

@@ -10,7 +10,7 @@ use Rattle.route_types.specs.declared.route.NextHop.TheVariants.{At, Own}
 use Rattle.text_words.specs.RplText.{is_plain}
 use Rattle.text_words.specs.declared.rpl_blocks.BlockKind.{BlockKind}
 use Rattle.text_words.specs.declared.rpl_blocks.BlockKind.TheVariants.{PrefixSet as PrefixBlock, CommunitySet as CommunityBlock, PathSet as PathBlock, Policy as PolicyBlock}
-use Rattle.aspath_text.specs.Shape.{IsShaped}
+use Rattle.path_patterns.specs.Shape.{IsShaped}
 use Rattle.rpl_words.specs.Conditions.{Condition, Asks, Grouped, Negated, Both, Either, ByOr, is_shaped, terms_of}
 use Rattle.rpl_words.specs.Elements.{reaches, rises}
 use Rattle.rpl_words.specs.Values.{is_rpl_name, is_inner_name}

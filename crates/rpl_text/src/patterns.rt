@@ -3,7 +3,7 @@ ghost use Rattle.std.specs.Prelude.{◌≡◌, ◌+◌, ◌<◌, ◌||◌, nat_l
 ghost use Rattle.std.specs.List.{AllByRecursion, filter, list_all};
 ghost use Rattle.aspath_text.specs.IosGrammar.{left_text, right_text, repeat_sign};
 ghost use Rattle.aspath_text.specs.IosText.{first_in, least_digit, greatest_digit, run_text};
-ghost use Rattle.aspath_text.specs.PathItems.{has_digit};
+ghost use Rattle.path_patterns.specs.PathItems.{has_digit};
 ghost use Rattle.rpl_text.specs.Patterns.{all_digits, is_run, set_text, word_text, words_text, tail_text, piece_text, branch_text, between, pattern_text};
 
 use crate::bytes::push;

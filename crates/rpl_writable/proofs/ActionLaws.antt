@@ -4,7 +4,7 @@ use Rattle.std.specs.Prelude.{nat_lt, ◌==◌}
 use Rattle.std.specs.List.{list_any, AllByRecursion}
 use Rattle.std.proofs.lemmas.Bool.{and_parts}
 use Rattle.std.proofs.lemmas.Bool.Decides.{nat_tests}
-use Rattle.aspath_text.proofs.Lists.{all_append}
+use Rattle.path_patterns.proofs.Lists.{all_append}
 use Rattle.policy_core.specs.Sayable.{hop_in_range}
 use Rattle.route_types.specs.Address.{same_family}
 use Rattle.route_types.specs.Community.{RectParts}

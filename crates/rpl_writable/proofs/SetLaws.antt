@@ -5,10 +5,10 @@ use Rattle.std.specs.List.{list_any, flat_map, AllByRecursion}
 use Rattle.std.proofs.lemmas.Bool.{le-leb}
 use Rattle.route_types.specs.Community.{RectParts}
 use Rattle.prefix_sets.specs.Range.{RangeParts}
-use Rattle.aspath_text.specs.Shape.{IsShaped}
-use Rattle.aspath_text.specs.declared.pattern.IosBranch.{IosBranch}
+use Rattle.path_patterns.specs.Shape.{IsShaped}
+use Rattle.path_patterns.specs.declared.pattern.IosBranch.{IosBranch}
 use Rattle.aspath_text.proofs.IosReadSpelled.{found_shaped}
-use Rattle.aspath_text.proofs.Lists.{all_append}
+use Rattle.path_patterns.proofs.Lists.{all_append}
 use Rattle.text_words.specs.declared.rpl_blocks.BlockKind.{BlockKind}
 use Rattle.text_words.specs.declared.rpl_blocks.BlockKind.TheVariants.{PrefixSet as PrefixBlock, CommunitySet as CommunityBlock, PathSet as PathBlock}
 use Rattle.rpl_words.specs.declared.element.Element.{Element as SetElement}

@@ -1,5 +1,5 @@
 use Rattle.std.proofs.Common.{subst}
-use Rattle.aspath_text.proofs.Lists.{first_tail}
+use Rattle.path_patterns.proofs.Lists.{first_tail}
 use Rattle.aspath_text.proofs.Written.{IsWrittenBefore, one_more}
 use Rattle.aspath_text.proofs.ios_print.barred.Goals as goal
 

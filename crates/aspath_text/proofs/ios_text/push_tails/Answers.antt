@@ -1,5 +1,5 @@
 use Rattle.aspath_text.specs.IosText.{tail_text}
-use Rattle.aspath_text.specs.declared.pattern.Repeat.TheVariants.{Maybe}
+use Rattle.path_patterns.specs.declared.pattern.Repeat.TheVariants.{Maybe}
 use Rattle.aspath_text.proofs.SetText.{one_fewer}
 use Rattle.aspath_text.proofs.ios_text.push_tails.Goals as goal
 

@@ -1,7 +1,7 @@
 use Rattle.std.proofs.Common.{◌≡◌, ◌++◌}
 use Rattle.std.specs.List.{repeat as repeated}
 use Rattle.aspath_text.specs.IosText.{tail_text}
-use Rattle.aspath_text.specs.declared.pattern.Repeat.TheVariants.{Maybe}
+use Rattle.path_patterns.specs.declared.pattern.Repeat.TheVariants.{Maybe}
 use Rattle.aspath_text.proofs.ios_text.push_tails.Given as goal
 
 abbrev pub invariant-loop-left : goal.invariant-loop-left

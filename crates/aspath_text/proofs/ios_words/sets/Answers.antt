@@ -1,6 +1,6 @@
 use Rattle.std.proofs.Common.{◌∙◌, sym, ap, arith, ◌-◌, ◌+◌, List}
 use Rattle.aspath_text.specs.IosWalk.{sets_onto}
-use Rattle.aspath_text.specs.declared.pattern.DigitSet.{DigitSet}
+use Rattle.path_patterns.specs.declared.pattern.DigitSet.{DigitSet}
 use Rattle.aspath_text.proofs.IosReadSets.{set_found, is_empty_then, not_empty_then, all_found, one_missing, too_many}
 use Rattle.aspath_text.proofs.ios_words.sets.Goals as goal
 

@@ -1,7 +1,7 @@
 use Rattle.std.proofs.Common.{subst, List}
 use Rattle.std.specs.Prelude.{map}
 use Rattle.std.specs.Borrow.{Bor}
-use Rattle.aspath_text.proofs.Lists.{first_tail}
+use Rattle.path_patterns.proofs.Lists.{first_tail}
 use Rattle.ios_tree.specs.declared.item.MapLine.{MapLine}
 use Rattle.ios_lower.specs.ChangeSteps.{AreBefore}
 use Rattle.ios_lower.proofs.changes.changes_of_sort.Goals as goal

@@ -1,7 +1,7 @@
 use Rattle.std.proofs.Common.{subst, List}
 use Rattle.std.specs.Prelude.{map}
 use Rattle.std.specs.Borrow.{Bor}
-use Rattle.aspath_text.proofs.Lists.{first_tail}
+use Rattle.path_patterns.proofs.Lists.{first_tail}
 use Rattle.ios_tree.specs.declared.item.CommunityListEntry.{CommunityListEntry}
 use Rattle.ios_lower.proofs.Deletions.{Found, found_more}
 use Rattle.ios_lower.proofs.deletion.taken_away.Goals as goal

@@ -3,7 +3,7 @@ use Rattle.std.specs.Prelude.{map}
 use Rattle.std.specs.List.{list_all}
 use Rattle.std.specs.Borrow.{Bor}
 use Rattle.route_types.specs.Route.{RouteParts}
-use Rattle.aspath_text.specs.Items.{IsPath}
+use Rattle.path_patterns.specs.Items.{IsPath}
 use Rattle.core_nodes.specs.Atoms.{atom_holds}
 use Rattle.ios_tree.specs.declared.item.MapLine.{MapLine}
 use Rattle.ios_meaning.specs.Drafts.{entry_of}

@@ -1,5 +1,5 @@
 use Rattle.std.proofs.Common.{◌≡◌, ◌++◌, length, map}
-use Rattle.aspath_text.specs.Items.{takes_of}
+use Rattle.path_patterns.specs.Items.{takes_of}
 use Rattle.path_classes.specs.Lines.{turn_takes, AreSoundTurns}
 use Rattle.path_classes.proofs.lines.turns_of.Given as goal
 

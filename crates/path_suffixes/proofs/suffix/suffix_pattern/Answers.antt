@@ -1,6 +1,6 @@
 use Rattle.std.proofs.Common.{◌≡◌, ap, ◌∙◌, ◌++◌, List}
-use Rattle.aspath_text.specs.declared.items.TokenBranch.{TokenBranch}
-use Rattle.aspath_text.specs.declared.items.TokenPattern.{TokenPattern}
+use Rattle.path_patterns.specs.declared.items.TokenBranch.{TokenBranch}
+use Rattle.path_patterns.specs.declared.items.TokenPattern.{TokenPattern}
 use Rattle.path_suffixes.specs.Behind.{branches_behind}
 use Rattle.path_suffixes.proofs.BehindLaws.{relation_behind}
 use Rattle.path_suffixes.proofs.suffix.suffix_pattern.Goals as goal

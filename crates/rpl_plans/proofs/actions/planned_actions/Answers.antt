@@ -2,7 +2,7 @@ use Rattle.std.proofs.Common.{◌≡◌, ◌∙◌, ◌-◌, ap, sym, subst, tru
 use Rattle.std.specs.Prelude.{take, drop}
 use Rattle.std.specs.List.{list_all, AllByRecursion}
 use Rattle.std.proofs.lemmas.Bool.{and_parts}
-use Rattle.aspath_text.proofs.Lists.{first_tail}
+use Rattle.path_patterns.proofs.Lists.{first_tail}
 use Rattle.policy_core.specs.Sayable.{rpl_change}
 use Rattle.route_types.specs.Change.{changed_by}
 use Rattle.route_types.specs.Route.{RouteParts}

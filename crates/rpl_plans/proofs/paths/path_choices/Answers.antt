@@ -1,7 +1,7 @@
 use Rattle.std.proofs.Common.{◌∙◌, ◌-◌, ap, sym, subst, length, List}
 use Rattle.std.specs.Prelude.{take, drop}
 use Rattle.std.specs.List.{AllByRecursion}
-use Rattle.aspath_text.proofs.Lists.{first_tail}
+use Rattle.path_patterns.proofs.Lists.{first_tail}
 use Rattle.core_nodes.specs.Atoms.{path_answers}
 use Rattle.core_nodes.specs.declared.atom.PathEntry.{PathEntry}
 use Rattle.rpl_plans.specs.Choices.{first_or}

@@ -1,6 +1,6 @@
 use Rattle.std.proofs.Common.{◌≡◌, length}
 use Rattle.std.specs.List.{AllByRecursion}
-use Rattle.aspath_text.specs.Items.{IsPath}
+use Rattle.path_patterns.specs.Items.{IsPath}
 use Rattle.core_nodes.specs.Atoms.{path_answers}
 use Rattle.route_types.specs.Route.{RouteParts}
 use Rattle.rpl_plans.specs.Choices.{first_or}

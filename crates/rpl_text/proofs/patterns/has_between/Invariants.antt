@@ -1,6 +1,6 @@
 use Rattle.std.proofs.Common.{◌≡◌, ◌||◌, nat_lt, length}
 use Rattle.std.specs.List.{list_all}
-use Rattle.aspath_text.specs.PathItems.{has_digit}
+use Rattle.path_patterns.specs.PathItems.{has_digit}
 use Rattle.rpl_text.proofs.patterns.has_between.Given as goal
 
 abbrev pub invariant-loop-rest : goal.invariant-loop-rest

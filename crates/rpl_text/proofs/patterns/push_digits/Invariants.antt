@@ -1,6 +1,6 @@
 use Rattle.std.proofs.Common.{◌≡◌, ◌+◌, ◌<◌, ◌++◌, length, map}
 use Rattle.std.specs.List.{AllByRecursion, filter}
-use Rattle.aspath_text.specs.PathItems.{has_digit}
+use Rattle.path_patterns.specs.PathItems.{has_digit}
 use Rattle.rpl_text.proofs.patterns.push_digits.Given as goal
 
 abbrev pub invariant-loop-rest : goal.invariant-loop-rest

@@ -1,5 +1,5 @@
 use Rattle.std.proofs.Common.{◌∙◌, ap, List}
-use Rattle.aspath_text.specs.declared.items.NumberRange.{NumberRange}
+use Rattle.path_patterns.specs.declared.items.NumberRange.{NumberRange}
 use Rattle.path_classes.specs.Numbers.{leasts_of, mosts_of}
 use Rattle.path_classes.proofs.NumbersLaws.{ends_tell}
 use Rattle.path_classes.proofs.ranges.RangeEnds.of.Goals as goal

@@ -1,9 +1,0 @@
-use Rattle.std.proofs.Common.{◌≡◌, ◌++◌, length}
-use Rattle.aspath_text.specs.MergedRanges.{joined_from}
-use Rattle.aspath_text.proofs.merged.joined_from.Given as goal
-
-abbrev pub invariant-loop-rest : goal.invariant-loop-rest
-invariant-loop-rest l = l.joined ++ joined_from l.held l.rest ≡ joined_from l.fn.first l.fn.others
-
-abbrev pub decreases-loop-rest : goal.decreases-loop-rest
-decreases-loop-rest l = length l.rest

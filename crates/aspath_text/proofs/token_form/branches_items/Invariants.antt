@@ -1,9 +1,0 @@
-use Rattle.std.proofs.Common.{◌≡◌, ◌++◌, length}
-use Rattle.aspath_text.specs.TokenForm.{branches_items}
-use Rattle.aspath_text.proofs.token_form.branches_items.Given as goal
-
-abbrev pub invariant-loop-rest : goal.invariant-loop-rest
-invariant-loop-rest l = l.found.items ++ branches_items l.rest ≡ branches_items l.branches
-
-abbrev pub decreases-loop-rest : goal.decreases-loop-rest
-decreases-loop-rest l = length l.rest

@@ -1,0 +1,34 @@
+pub mod Lists
+pub mod FindsTurns
+pub mod FindsFound
+mod SearchExamples
+mod ItemsExamples
+pub mod PathText
+pub mod SpansNumbers
+pub mod SpansTails
+pub mod PiecesTaken
+pub mod TakenPieces
+pub mod FoundTaken
+pub mod DigitSets
+pub mod PieceRows
+pub mod RowSteps
+pub mod RowLaws
+pub mod RowsFind
+pub mod CountLaws
+pub mod TakesLaws
+pub mod SamePaths
+pub mod MergedLaws
+pub mod JunosItemsLaws
+pub mod JunosAdds
+pub mod DigitSteps
+pub mod DigitRangesJoined
+pub mod DigitRangesSpread
+pub mod DigitRangesWords
+pub mod SameTakes
+pub mod TokensFound
+pub mod ItemWords
+pub mod RangeWordsRuns
+pub mod RangeWordsBlock
+pub mod RangeWordsGrown
+pub mod DigitExamples
+pub mod PathMatches

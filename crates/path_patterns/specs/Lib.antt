@@ -1,0 +1,17 @@
+pub mod Items
+pub mod Shape
+pub mod Search
+pub mod PathItems
+pub mod DigitRanges
+pub mod Counts
+pub mod SameTakes
+pub mod TokenForm
+pub mod RangeWords
+pub mod Rows
+pub mod Finds
+pub mod PathMatches
+pub mod IosForm
+pub mod WordItems
+pub mod SamePaths
+pub mod MergedRanges
+pub mod JunosItems
