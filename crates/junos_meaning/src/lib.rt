@@ -19,7 +19,7 @@ mod world;
 pub use judge::judge_junos;
 pub use junos_reader::{
     Action, CheckedJunos, CommunityAction, CommunityDefinition, CommunityVerb, Condition, Flow,
-    ItemSort, JunosForm, JunosItem, JunosTree, ListFilter, OtherItem, PathDefinition, Place,
+    JunosForm, JunosItem, JunosTree, ListFilter, OtherItem, PathDefinition, Place, StatementSort,
     TermAction, TermCondition, check_junos, first_fault_is_least, forms_are_spelled, one_reading,
     read_junos,
 };

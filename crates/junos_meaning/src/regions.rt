@@ -6,7 +6,7 @@ ghost use Rattle.junos_reader.specs.Facts.{forms_of};
 ghost use Rattle.junos_meaning.specs.Sets.{contents_of};
 ghost use Rattle.junos_meaning.specs.Regions.{content_of, part_of, named_contents, ends_region, same, condition_in, action_in};
 
-use junos_reader::{Action, Condition, ItemSort, JunosForm, JunosItem};
+use junos_reader::{Action, Condition, JunosForm, JunosItem, StatementSort};
 use route_types::Memory;
 use std::alloc::Global;
 
@@ -24,9 +24,9 @@ fn is_inner(form: &JunosForm) -> bool
         JunosForm::PrefixList(_) | JunosForm::Community(_) => false,
         JunosForm::AsPath(_) | JunosForm::Policy(_) => false,
         JunosForm::Other(other) => match other.sort {
-            ItemSort::Inner => true,
-            ItemSort::PrefixList | ItemSort::Community => false,
-            ItemSort::AsPath | ItemSort::Policy => false,
+            StatementSort::Inner => true,
+            StatementSort::PrefixList | StatementSort::Community => false,
+            StatementSort::AsPath | StatementSort::Policy => false,
         },
         JunosForm::Member(_) | JunosForm::Term(_) => true,
         JunosForm::Condition(_) | JunosForm::Action(_) => true,

@@ -7,8 +7,8 @@ use denote.Ref.{Bor}
 use Rattle.policy_text.specs.NameSets.{has_name, is_key}
 use Rattle.junos_tree.specs.Sorts.{same_sort, is_inner}
 use Rattle.junos_tree.specs.Terms.{term_before}
-use Rattle.junos_tree.specs.declared.item.ItemSort.{ItemSort}
-use Rattle.junos_tree.specs.declared.item.ItemSort.TheVariants.{PrefixList as ListSort, Community as CommunitySort, AsPath as PathSort, Policy as PolicySort, Inner}
+use Rattle.junos_tree.specs.declared.item.StatementSort.{StatementSort}
+use Rattle.junos_tree.specs.declared.item.StatementSort.TheVariants.{PrefixList as ListSort, Community as CommunitySort, AsPath as PathSort, Policy as PolicySort, Inner}
 use Rattle.junos_tree.specs.declared.item.Condition.{Condition as TheCondition}
 use Rattle.junos_tree.specs.declared.item.Action.{Action as TheAction}
 use Rattle.junos_tree.specs.declared.item.TermCondition.{TermCondition}
@@ -51,13 +51,13 @@ nothing_before s definition defined terms named unnamed flags = record {
 
 module _ (f : JunosForm) (before : List JunosForm) (old new : State) (behind : IsBehind before old) where
   -- the definitions before, behind a form that starts none
-  same_defined : ((sort : ItemSort) (q : List ℕ) → starts sort q f ≡ false) → new.defined ≡ old.defined → (sort : ItemSort) (q : List ℕ) → has_name new.defined q (sort_code sort) 0 ≡ list_any (starts sort q) (f ∷ before)
+  same_defined : ((sort : StatementSort) (q : List ℕ) → starts sort q f ≡ false) → new.defined ≡ old.defined → (sort : StatementSort) (q : List ℕ) → has_name new.defined q (sort_code sort) 0 ≡ list_any (starts sort q) (f ∷ before)
   same_defined none e sort q =
       ap (λ s. has_name s q (sort_code sort) 0) e ∙ ap (λ (b : Before). b.defined sort q) behind.tells ∙ sym (ap (λ (b : Bool). b || list_any (starts sort q) before) (none sort q))
 
   -- behind a form that starts a definition
   pub behind_definition : is_inner f ≡ false → option_map (λ d. (d.0, d.1.now)) new.definition ≡ definition_of f
-      → ((sort : ItemSort) (q : List ℕ) → has_name new.defined q (sort_code sort) 0 ≡ (is_as sort q f || has_name old.defined q (sort_code sort) 0))
+      → ((sort : StatementSort) (q : List ℕ) → has_name new.defined q (sort_code sort) 0 ≡ (is_as sort q f || has_name old.defined q (sort_code sort) 0))
       → ((q : List ℕ) (a b : ℕ) → has_name new.terms q a b ≡ false) → IsEmptyTerm new.named → IsEmptyTerm new.unnamed → new.flags ≡ flags_of [] → IsBehind (f ∷ before) new
   unfolding definition_before has_term term_before goes_on_before
   behind_definition outer definition defined terms named unnamed flags =
@@ -121,7 +121,7 @@ behind_header f name e before old new behind definition defined terms named unna
 -- in the named one, or in neither
 pub record Parts (f : JunosForm) (before named unnamed : List JunosForm) : Type 0 where
   pub definition : definition_before (f ∷ before) ≡ definition_before before
-  pub starts_none : (sort : ItemSort) (q : List ℕ) → starts sort q f ≡ false
+  pub starts_none : (sort : StatementSort) (q : List ℕ) → starts sort q f ≡ false
   pub terms : (q : List ℕ) → has_term q (f ∷ before) ≡ has_term q before
   pub in_named : term_before false (f ∷ before) ≡ named
   pub in_unnamed : term_before true (f ∷ before) ≡ unnamed
@@ -197,7 +197,7 @@ module _ (f : JunosForm) (before : List JunosForm) (old new : State) (statement 
 
 -- ---- anything else
 
-other_parts : (sort : ItemSort) (name : Option (List ℕ)) (before : List JunosForm) → is_inner (Other (record { sort = sort; name = name })) ≡ true
+other_parts : (sort : StatementSort) (name : Option (List ℕ)) (before : List JunosForm) → is_inner (Other (record { sort = sort; name = name })) ≡ true
     → Parts (Other (record { sort = sort; name = name })) before (term_before false before) (term_before true before)
 unfolding definition_before has_term term_before
 other_parts Inner name before e = record { definition = refl; starts_none = λ sort q. refl; terms = λ q. refl; in_named = refl; in_unnamed = refl }
@@ -206,7 +206,7 @@ other_parts CommunitySort name before e = absurd cc
 other_parts PathSort name before e = absurd cc
 other_parts PolicySort name before e = absurd cc
 
-other_flags : (sort : ItemSort) (name : Option (List ℕ)) (flags : Flags) → is_inner (Other (record { sort = sort; name = name })) ≡ true → flags ≡ flags_behind flags (Other (record { sort = sort; name = name }))
+other_flags : (sort : StatementSort) (name : Option (List ℕ)) (flags : Flags) → is_inner (Other (record { sort = sort; name = name })) ≡ true → flags ≡ flags_behind flags (Other (record { sort = sort; name = name }))
 other_flags Inner name flags e = refl
 other_flags ListSort name flags e = absurd cc
 other_flags CommunitySort name flags e = absurd cc

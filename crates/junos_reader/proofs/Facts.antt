@@ -7,8 +7,8 @@ use Rattle.policy_calls.specs.Calls.{Link, is_reached, is_called, leads_to_some,
 use Rattle.policy_calls.specs.Depth.{is_too_deep}
 use Rattle.policy_calls.specs.Callees.{has_pair}
 use Rattle.junos_tree.specs.Sorts.{defines}
-use Rattle.junos_tree.specs.declared.item.ItemSort.{ItemSort}
-use Rattle.junos_tree.specs.declared.item.ItemSort.TheVariants.{PrefixList as ListSort, Community as CommunitySort, AsPath as PathSort, Policy as PolicySort, Inner}
+use Rattle.junos_tree.specs.declared.item.StatementSort.{StatementSort}
+use Rattle.junos_tree.specs.declared.item.StatementSort.TheVariants.{PrefixList as ListSort, Community as CommunitySort, AsPath as PathSort, Policy as PolicySort, Inner}
 use Rattle.junos_tree.specs.declared.item.JunosItem.{JunosItem}
 use Rattle.junos_reader.specs.Forms.{sort_code, is_not_plain}
 use Rattle.junos_reader.specs.Statements.{Statement, statements_of, links_in, links_of, testers_in, testers_of, names_it}
@@ -30,10 +30,10 @@ module _ (k : Known) (all : List JunosItem) (links : List Link) (given names : L
   reached_is : (q : List ℕ) → has_name k.reached q 0 0 ≡ is_reached (links_of all) given q
   reached_is q = holds.reached q ∙ (λ j. is_reached (by_links j) (names_are j) q)
 
-  used_is : (sort : ItemSort) (q : List ℕ) → has_name k.used q (sort_code sort) 0 ≡ is_used given all sort q
+  used_is : (sort : StatementSort) (q : List ℕ) → has_name k.used q (sort_code sort) 0 ≡ is_used given all sort q
   used_is sort q = holds.used sort q ∙ (λ j. list_any (λ s. reached_is s.policy j && names_it sort q s.form) (ss_are j))
 
-  reached_as : (sort : ItemSort) (q : List ℕ) → known_reached k sort q ≡ is_reached_as given all sort q
+  reached_as : (sort : StatementSort) (q : List ℕ) → known_reached k sort q ≡ is_reached_as given all sort q
   reached_as PolicySort q = reached_is q
   reached_as ListSort q = used_is ListSort q
   reached_as CommunitySort q = used_is CommunitySort q

@@ -11,7 +11,7 @@ use Rattle.prefix_sets.specs.Range.{RangeParts}
 use Rattle.policy_calls.specs.Calls.{leads}
 use Rattle.policy_calls.specs.Depth.{is_at, is_too_deep}
 use Rattle.junos_tree.specs.Terms.{term_before}
-use Rattle.junos_tree.specs.declared.item.ItemSort.TheVariants.{Inner}
+use Rattle.junos_tree.specs.declared.item.StatementSort.TheVariants.{Inner}
 use Rattle.junos_tree.specs.declared.item.Condition.{Condition}
 use Rattle.junos_tree.specs.declared.item.Condition.TheVariants.{AsPath as HasPath, Policy as CallsPolicies, RouteFilter, ListFilter as InList, Metric as HasMetric}
 use Rattle.junos_tree.specs.declared.item.Action.{Action}

@@ -3,8 +3,8 @@ use Rattle.std.proofs.Common.{◌≡◌, refl, sym, ap, ◌∙◌, ℕ, Bool, tr
 use Rattle.std.specs.List.{list_any}
 use Rattle.junos_tree.specs.Sorts.{is_inner}
 use Rattle.junos_tree.specs.Terms.{term_before, starts_term, is_of_term}
-use Rattle.junos_tree.specs.declared.item.ItemSort.{ItemSort}
-use Rattle.junos_tree.specs.declared.item.ItemSort.TheVariants.{PrefixList as ListSort, Community as CommunitySort, AsPath as PathSort, Policy as PolicySort, Inner}
+use Rattle.junos_tree.specs.declared.item.StatementSort.{StatementSort}
+use Rattle.junos_tree.specs.declared.item.StatementSort.TheVariants.{PrefixList as ListSort, Community as CommunitySort, AsPath as PathSort, Policy as PolicySort, Inner}
 use Rattle.junos_tree.specs.declared.item.Condition.{Condition as TheCondition}
 use Rattle.junos_tree.specs.declared.item.Action.{Action as TheAction}
 use Rattle.junos_tree.specs.declared.item.OtherItem.{OtherItem}
@@ -31,7 +31,7 @@ unfolding term_before goes_on_before
 behind_action true a before = refl
 behind_action false a before = refl
 
-behind_other : (sort : ItemSort) (name : Option (List ℕ)) (before : List JunosForm) → AreBehind (Other (record { sort = sort; name = name })) before
+behind_other : (sort : StatementSort) (name : Option (List ℕ)) (before : List JunosForm) → AreBehind (Other (record { sort = sort; name = name })) before
 unfolding term_before goes_on_before
 behind_other ListSort name before = refl
 behind_other CommunitySort name before = refl

@@ -5,7 +5,7 @@ use Rattle.route_types.specs.Address.{PrefixParts}
 use Rattle.policy_text.specs.Names.{is_named}
 use Rattle.junos_tree.specs.Sorts.{sort_of_form, name_of_form, same_sort, is_inner}
 use Rattle.junos_tree.specs.Terms.{term_before}
-use Rattle.junos_tree.specs.declared.item.ItemSort.{ItemSort}
+use Rattle.junos_tree.specs.declared.item.StatementSort.{StatementSort}
 use Rattle.junos_tree.specs.declared.item.JunosForm.{JunosForm}
 use Rattle.junos_reader.specs.Forms.{is_term_of, kind_of, is_kind, filter_of, is_prefix}
 use Rattle.junos_reader.specs.Terms.{goes_on_before}
@@ -21,7 +21,7 @@ earlier fs = record { kinds = λ k. list_any (λ f. is_kind k (kind_of f)) fs; f
 
 -- the sort and the name of a definition
 abbrev pub Definition : Type 0
-Definition = ItemSort × List ℕ
+Definition = StatementSort × List ℕ
 
 -- the definition that a form starts, where it starts one under a name
 abbrev pub definition_of : JunosForm → Option Definition
@@ -33,11 +33,11 @@ definition_before [] = None
 definition_before (f ∷ fs) = elim (is_inner f) [ true ↦ definition_before fs | false ↦ definition_of f ]
 
 -- the form is of this sort and name
-abbrev pub is_as : ItemSort → List ℕ → JunosForm → Bool
+abbrev pub is_as : StatementSort → List ℕ → JunosForm → Bool
 is_as sort q f = same_sort sort (sort_of_form f) && is_named q (name_of_form f)
 
 -- the form starts a definition of this sort and name
-abbrev pub starts : ItemSort → List ℕ → JunosForm → Bool
+abbrev pub starts : StatementSort → List ℕ → JunosForm → Bool
 starts sort q f = not (is_inner f) && is_as sort q f
 
 -- a term of this name stands before the place in its definition
@@ -50,7 +50,7 @@ has_term q (f ∷ fs) = elim (is_inner f) [ true ↦ is_term_of q f || has_term 
 -- whether an earlier named term of its policy puts numbers before the path and goes on
 pub record Before : Type 0 where
   pub definition : Option Definition
-  pub defined : ItemSort → List ℕ → Bool
+  pub defined : StatementSort → List ℕ → Bool
   pub terms : List ℕ → Bool
   pub named : Earlier
   pub unnamed : Earlier

@@ -4,8 +4,8 @@ use Rattle.std.specs.List.{list_any}
 use Rattle.policy_calls.specs.Calls.{Link, is_reached, is_called, leads_to_some, turns_back}
 use Rattle.policy_calls.specs.Depth.{is_too_deep}
 use Rattle.junos_tree.specs.Sorts.{defines}
-use Rattle.junos_tree.specs.declared.item.ItemSort.{ItemSort}
-use Rattle.junos_tree.specs.declared.item.ItemSort.TheVariants.{Policy as PolicySort}
+use Rattle.junos_tree.specs.declared.item.StatementSort.{StatementSort}
+use Rattle.junos_tree.specs.declared.item.StatementSort.TheVariants.{Policy as PolicySort}
 use Rattle.junos_tree.specs.declared.item.JunosForm.{JunosForm}
 use Rattle.junos_tree.specs.declared.item.JunosItem.{JunosItem}
 use Rattle.junos_reader.specs.Forms.{is_not_plain}
@@ -17,8 +17,8 @@ use Rattle.junos_reader.specs.Terms.{named_goes_on, some_goes_on, passing, stand
 -- which of them behind one with a term that puts numbers before the path and goes on; which have such a named term; which
 -- calls lead back to the caller; in which policies a call is too deep
 pub record Facts : Type 0 where
-  pub defined : ItemSort → List ℕ → Bool
-  pub reached : ItemSort → List ℕ → Bool
+  pub defined : StatementSort → List ℕ → Bool
+  pub reached : StatementSort → List ℕ → Bool
   pub called : List ℕ → Bool
   pub tests_path : List ℕ → Bool
   pub not_plain : List ℕ → Bool
@@ -33,11 +33,11 @@ abbrev pub forms_of : List JunosItem → List JunosForm
 forms_of is = map (λ i. i.form) is
 
 -- a statement of a reached policy names the definition
-abbrev pub is_used : List (List ℕ) → List JunosItem → ItemSort → List ℕ → Bool
+abbrev pub is_used : List (List ℕ) → List JunosItem → StatementSort → List ℕ → Bool
 is_used names all sort q = list_any (λ s. is_reached (links_of all) names s.policy && names_it sort q s.form) (statements_of all)
 
 -- the definition is reached: a policy by the names of the chain, anything else by a statement of a reached policy
-abbrev pub is_reached_as : List (List ℕ) → List JunosItem → ItemSort → List ℕ → Bool
+abbrev pub is_reached_as : List (List ℕ) → List JunosItem → StatementSort → List ℕ → Bool
 is_reached_as names all PolicySort q = is_reached (links_of all) names q
 is_reached_as names all sort q = is_used names all sort q
 

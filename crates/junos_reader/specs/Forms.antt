@@ -4,8 +4,8 @@ use Rattle.std.specs.List.{list_any}
 use Rattle.route_types.specs.Address.{PrefixParts, width}
 use Rattle.route_types.specs.Community.{RectParts}
 use Rattle.policy_text.specs.Names.{is_named}
-use Rattle.junos_tree.specs.declared.item.ItemSort.{ItemSort}
-use Rattle.junos_tree.specs.declared.item.ItemSort.TheVariants.{PrefixList as ListSort, Community as CommunitySort, AsPath as PathSort, Policy as PolicySort, Inner}
+use Rattle.junos_tree.specs.declared.item.StatementSort.{StatementSort}
+use Rattle.junos_tree.specs.declared.item.StatementSort.TheVariants.{PrefixList as ListSort, Community as CommunitySort, AsPath as PathSort, Policy as PolicySort, Inner}
 use Rattle.junos_tree.specs.declared.item.Condition.{Condition}
 use Rattle.junos_tree.specs.declared.item.Condition.TheVariants.{PrefixList as InLists, RouteFilter, ListFilter as InList, Metric as HasMetric, LocalPreference as HasPreference, Origin as HasOrigin}
 use Rattle.junos_tree.specs.declared.item.Action.{Action}
@@ -18,7 +18,7 @@ use Rattle.junos_tree.specs.declared.item.JunosForm.{JunosForm}
 use Rattle.junos_tree.specs.declared.item.JunosForm.TheVariants.{Community as CommunityForm, Term as TermHeader, Condition as IsCondition, Action as IsAction, Other}
 
 -- the sort of an item as a number
-abbrev pub sort_code : ItemSort → ℕ
+abbrev pub sort_code : StatementSort → ℕ
 sort_code ListSort = 0
 sort_code CommunitySort = 1
 sort_code PathSort = 2

@@ -8,8 +8,8 @@ use Rattle.route_types.specs.Address.{PrefixParts, width}
 use Rattle.policy_text.specs.NameSets.{has_name}
 use Rattle.policy_calls.specs.Callees.{has_pair}
 use Rattle.junos_tree.specs.Terms.{term_before}
-use Rattle.junos_tree.specs.declared.item.ItemSort.{ItemSort}
-use Rattle.junos_tree.specs.declared.item.ItemSort.TheVariants.{Policy as PolicySort}
+use Rattle.junos_tree.specs.declared.item.StatementSort.{StatementSort}
+use Rattle.junos_tree.specs.declared.item.StatementSort.TheVariants.{Policy as PolicySort}
 use Rattle.junos_tree.specs.Sorts.{is_inner}
 use Rattle.junos_tree.specs.declared.item.TermAction.{TermAction}
 use Rattle.junos_tree.specs.declared.item.JunosForm.{JunosForm}
@@ -35,7 +35,7 @@ abbrev pub plain_statements : List PolicyStatement → List Statement
 plain_statements ss = map plain ss
 
 -- the definition of this sort and name is reached
-abbrev pub known_reached : Known → ItemSort → List ℕ → Bool
+abbrev pub known_reached : Known → StatementSort → List ℕ → Bool
 known_reached k PolicySort q = has_name k.reached q 0 0
 known_reached k sort q = has_name k.used q (sort_code sort) 0
 

@@ -7,8 +7,8 @@ use Rattle.policy_text.specs.Causes.{Rules, first_fault_from, HasNoFault, IsFirs
 use Rattle.policy_text.specs.declared.fault.Cause.{Cause}
 use Rattle.policy_text.specs.declared.fault.Cause.TheVariants.{UnknownForm, DefinedTwice, Undefined, SameKindTwice, NotPlain, MixedPrefixTests, SamePrefixTwice, PathTestAfterPrepend, SubroutineChanges, NextPolicyInSubroutine, Cycle, TooDeep}
 use Rattle.junos_tree.specs.Sorts.{sort_of_form, name_of_form, is_inner, defines}
-use Rattle.junos_tree.specs.declared.item.ItemSort.{ItemSort}
-use Rattle.junos_tree.specs.declared.item.ItemSort.TheVariants.{Policy as PolicySort}
+use Rattle.junos_tree.specs.declared.item.StatementSort.{StatementSort}
+use Rattle.junos_tree.specs.declared.item.StatementSort.TheVariants.{Policy as PolicySort}
 use Rattle.junos_tree.specs.declared.item.JunosForm.{JunosForm}
 use Rattle.junos_tree.specs.declared.item.JunosForm.TheVariants.{Term as TermHeader}
 use Rattle.junos_tree.specs.declared.item.JunosItem.{JunosItem}

@@ -3,8 +3,8 @@ use Rattle.std.specs.Prelude.{ℕ, Bool, true, false, ◌&&◌, List, [], ◌∷
 use Rattle.std.specs.List.{list_any}
 use Rattle.policy_calls.specs.Calls.{Link}
 use Rattle.junos_tree.specs.Sorts.{same_sort, is_inner}
-use Rattle.junos_tree.specs.declared.item.ItemSort.{ItemSort}
-use Rattle.junos_tree.specs.declared.item.ItemSort.TheVariants.{PrefixList as ListSort, Community as CommunitySort, AsPath as PathSort, Policy as PolicySort, Inner}
+use Rattle.junos_tree.specs.declared.item.StatementSort.{StatementSort}
+use Rattle.junos_tree.specs.declared.item.StatementSort.TheVariants.{PrefixList as ListSort, Community as CommunitySort, AsPath as PathSort, Policy as PolicySort, Inner}
 use Rattle.junos_tree.specs.declared.item.Condition.{Condition}
 use Rattle.junos_tree.specs.declared.item.Condition.TheVariants.{Community as HasCommunity, AsPath as HasPath, Policy as CallsPolicies, PrefixList as InLists, ListFilter as InList}
 use Rattle.junos_tree.specs.declared.item.Action.{Action}
@@ -44,7 +44,7 @@ statements_of all = statements_from None all
 -- ---- what a statement names
 
 -- the definitions that a condition names, and their sort
-abbrev pub named_by_condition : Condition → ItemSort × List (List ℕ)
+abbrev pub named_by_condition : Condition → StatementSort × List (List ℕ)
 named_by_condition (HasCommunity names) = (CommunitySort, names)
 named_by_condition (HasPath names) = (PathSort, names)
 named_by_condition (CallsPolicies names) = (PolicySort, names)
@@ -53,18 +53,18 @@ named_by_condition (InList f) = (ListSort, f.list ∷ [])
 named_by_condition _ = (Inner, [])
 
 -- the definitions that an action names, and their sort
-abbrev pub named_by_action : Action → ItemSort × List (List ℕ)
+abbrev pub named_by_action : Action → StatementSort × List (List ℕ)
 named_by_action (ChangesCommunities a) = (CommunitySort, a.community ∷ [])
 named_by_action _ = (Inner, [])
 
 -- the definitions that a form names, and their sort
-abbrev pub named_by : JunosForm → ItemSort × List (List ℕ)
+abbrev pub named_by : JunosForm → StatementSort × List (List ℕ)
 named_by (IsCondition c) = named_by_condition c.condition
 named_by (IsAction a) = named_by_action a.action
 named_by _ = (Inner, [])
 
 -- the form names this definition
-abbrev pub names_it : ItemSort → List ℕ → JunosForm → Bool
+abbrev pub names_it : StatementSort → List ℕ → JunosForm → Bool
 names_it sort q form = same_sort sort (named_by form).0 && list_any (bytes_eq q) (named_by form).1
 
 -- the policies that a condition calls

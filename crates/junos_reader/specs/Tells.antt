@@ -6,7 +6,7 @@ use Rattle.policy_calls.specs.Calls.{Link, is_reached, leads_to_some, turns_back
 use Rattle.policy_calls.specs.Depth.{is_too_deep}
 use Rattle.policy_calls.specs.Callees.{has_pair}
 use Rattle.junos_tree.specs.Sorts.{defines}
-use Rattle.junos_tree.specs.declared.item.ItemSort.{ItemSort}
+use Rattle.junos_tree.specs.declared.item.StatementSort.{StatementSort}
 use Rattle.junos_tree.specs.declared.item.JunosItem.{JunosItem}
 use Rattle.junos_reader.specs.Forms.{sort_code, is_not_plain}
 use Rattle.junos_reader.specs.Statements.{Statement, names_it}
@@ -16,9 +16,9 @@ use Rattle.junos_reader.specs.declared.known.Known.{Known}
 -- the sets of what is known hold what their names say, by the calls, the names of the chain, the statements and so on that
 -- were found
 pub record Holds (k : Known) (all : List JunosItem) (links : List Link) (names : List (List ℕ)) (ss : List Statement) (testers going named : List (List ℕ)) : Type 0 where
-  pub defined : (sort : ItemSort) (q : List ℕ) → has_name k.defined q (sort_code sort) 0 ≡ list_any (defines sort q) all
+  pub defined : (sort : StatementSort) (q : List ℕ) → has_name k.defined q (sort_code sort) 0 ≡ list_any (defines sort q) all
   pub reached : (q : List ℕ) → has_name k.reached q 0 0 ≡ is_reached links names q
-  pub used : (sort : ItemSort) (q : List ℕ) → has_name k.used q (sort_code sort) 0 ≡ list_any (λ s. has_name k.reached s.policy 0 0 && names_it sort q s.form) ss
+  pub used : (sort : StatementSort) (q : List ℕ) → has_name k.used q (sort_code sort) 0 ≡ list_any (λ s. has_name k.reached s.policy 0 0 && names_it sort q s.form) ss
   pub called : (q : List ℕ) → has_name k.called q 0 0 ≡ list_any (λ l. bytes_eq q l.callee && has_name k.reached l.caller 0 0) links
   pub tests_path : (q : List ℕ) → has_name k.tests_path q 0 0 ≡ leads_to_some links testers q
   pub not_plain : (q : List ℕ) → has_name k.not_plain q 0 0 ≡ list_any (λ i. is_not_plain q i.form) all

@@ -2,7 +2,7 @@ ghost use Rattle.std.specs.Prelude.{◌≡◌, ◌<◌, ℕ, List, [], ◌∷◌
 ghost use Rattle.std.specs.List.{list_any, list_all};
 ghost use Rattle.policy_text.specs.NameSets.{has_name};
 ghost use Rattle.junos_tree.specs.Sorts.{defines};
-ghost use Rattle.junos_tree.specs.declared.item.ItemSort.{ItemSort as SpecSort};
+ghost use Rattle.junos_tree.specs.declared.item.StatementSort.{StatementSort as SpecSort};
 ghost use Rattle.junos_reader.specs.Forms.{sort_code};
 ghost use Rattle.junos_reader.specs.Profile.{InProfile, first_fault, is_defined};
 ghost use Rattle.junos_reader.specs.Faults.{IsCheckFault, undefined_from};

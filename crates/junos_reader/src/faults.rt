@@ -15,7 +15,7 @@ use crate::forms::{
 use crate::known::{Known, is_reached};
 use crate::sets::has_prefix;
 use crate::state::{State, TermState};
-use junos_tree::{ItemSort, JunosForm};
+use junos_tree::{JunosForm, StatementSort};
 use policy_calls::{PairSet, has_pair};
 use policy_text::{Cause, NameSet, Rules, any_missing, first_cause, has_name};
 use route_types::Row;
@@ -52,11 +52,11 @@ fn policy_of<'a>(state: &State<'a>) -> Option<&'a [u8]>
     match state.definition {
         None => None,
         Some((sort, name)) => match sort {
-            ItemSort::PrefixList => None,
-            ItemSort::Community => None,
-            ItemSort::AsPath => None,
-            ItemSort::Policy => Some(name),
-            ItemSort::Inner => None,
+            StatementSort::PrefixList => None,
+            StatementSort::Community => None,
+            StatementSort::AsPath => None,
+            StatementSort::Policy => Some(name),
+            StatementSort::Inner => None,
         },
     }
 }

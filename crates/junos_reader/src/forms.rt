@@ -6,31 +6,31 @@ ghost use Rattle.junos_tree.specs.Terms.{is_term_header};
 ghost use Rattle.junos_reader.specs.Statements.{policy_in, named_by_condition, named_by_action, named_by, called_by_condition, called_by, is_call, is_path_test};
 ghost use Rattle.junos_reader.specs.Forms.{sort_code, has_no_form, kind_of_condition, kind_of_action, kind_of, filter_of_condition, filter_of, changes, prepends, ends, leaves, acts, set_or_added, set_or_added_by, is_wild, is_unnamed};
 
-use junos_tree::{Action, CommunityVerb, Condition, Flow, ItemSort, JunosForm};
+use junos_tree::{Action, CommunityVerb, Condition, Flow, JunosForm, StatementSort};
 use route_types::{Prefix, Rect, Row};
 
-pub(crate) fn sort_of_form(form: &JunosForm) -> ItemSort
+pub(crate) fn sort_of_form(form: &JunosForm) -> StatementSort
     ensures { result ≡ sort_of_form form.now }
 {
     match form {
-        JunosForm::PrefixList(_) => ItemSort::PrefixList,
-        JunosForm::Community(_) => ItemSort::Community,
-        JunosForm::AsPath(_) => ItemSort::AsPath,
-        JunosForm::Policy(_) => ItemSort::Policy,
+        JunosForm::PrefixList(_) => StatementSort::PrefixList,
+        JunosForm::Community(_) => StatementSort::Community,
+        JunosForm::AsPath(_) => StatementSort::AsPath,
+        JunosForm::Policy(_) => StatementSort::Policy,
         JunosForm::Other(other) => other.sort,
-        _ => ItemSort::Inner,
+        _ => StatementSort::Inner,
     }
 }
 
-pub(crate) fn sort_code(sort: ItemSort) -> u64
+pub(crate) fn sort_code(sort: StatementSort) -> u64
     ensures { result ≡ sort_code sort }
 {
     match sort {
-        ItemSort::PrefixList => 0,
-        ItemSort::Community => 1,
-        ItemSort::AsPath => 2,
-        ItemSort::Policy => 3,
-        ItemSort::Inner => 4,
+        StatementSort::PrefixList => 0,
+        StatementSort::Community => 1,
+        StatementSort::AsPath => 2,
+        StatementSort::Policy => 3,
+        StatementSort::Inner => 4,
     }
 }
 
@@ -60,11 +60,11 @@ pub(crate) fn is_inner(form: &JunosForm) -> bool
     ensures { result ≡ is_inner form.now }
 {
     match sort_of_form(form) {
-        ItemSort::PrefixList => false,
-        ItemSort::Community => false,
-        ItemSort::AsPath => false,
-        ItemSort::Policy => false,
-        ItemSort::Inner => true,
+        StatementSort::PrefixList => false,
+        StatementSort::Community => false,
+        StatementSort::AsPath => false,
+        StatementSort::Policy => false,
+        StatementSort::Inner => true,
     }
 }
 
@@ -101,39 +101,45 @@ pub(crate) fn is_unnamed(form: &JunosForm) -> bool
 
 // ---- what a form names
 
-fn named_by_condition(condition: &Condition) -> (ItemSort, &[Row<u8>])
+fn named_by_condition(condition: &Condition) -> (StatementSort, &[Row<u8>])
     ensures { (result.0, result.1.now) ≡ named_by_condition condition.now }
 {
     match condition {
-        Condition::Community(names) => (ItemSort::Community, names.as_slice()),
-        Condition::AsPath(names) => (ItemSort::AsPath, names.as_slice()),
-        Condition::Policy(names) => (ItemSort::Policy, names.as_slice()),
-        Condition::PrefixList(names) => (ItemSort::PrefixList, names.as_slice()),
+        Condition::Community(names) => (StatementSort::Community, names.as_slice()),
+        Condition::AsPath(names) => (StatementSort::AsPath, names.as_slice()),
+        Condition::Policy(names) => (StatementSort::Policy, names.as_slice()),
+        Condition::PrefixList(names) => (StatementSort::PrefixList, names.as_slice()),
         Condition::ListFilter(filter) => {
-            (ItemSort::PrefixList, std::slice::from_ref(&filter.list))
+            (
+                StatementSort::PrefixList,
+                std::slice::from_ref(&filter.list),
+            )
         }
-        _ => (ItemSort::Inner, &[]),
+        _ => (StatementSort::Inner, &[]),
     }
 }
 
-fn named_by_action(action: &Action) -> (ItemSort, &[Row<u8>])
+fn named_by_action(action: &Action) -> (StatementSort, &[Row<u8>])
     ensures { (result.0, result.1.now) ≡ named_by_action action.now }
 {
     match action {
         Action::Community(change) => {
-            (ItemSort::Community, std::slice::from_ref(&change.community))
+            (
+                StatementSort::Community,
+                std::slice::from_ref(&change.community),
+            )
         }
-        _ => (ItemSort::Inner, &[]),
+        _ => (StatementSort::Inner, &[]),
     }
 }
 
-pub(crate) fn named_by(form: &JunosForm) -> (ItemSort, &[Row<u8>])
+pub(crate) fn named_by(form: &JunosForm) -> (StatementSort, &[Row<u8>])
     ensures { (result.0, result.1.now) ≡ named_by form.now }
 {
     match form {
         JunosForm::Condition(condition) => named_by_condition(&condition.condition),
         JunosForm::Action(action) => named_by_action(&action.action),
-        _ => (ItemSort::Inner, &[]),
+        _ => (StatementSort::Inner, &[]),
     }
 }
 

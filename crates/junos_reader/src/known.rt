@@ -4,7 +4,7 @@ ghost use Rattle.std.specs.List.{list_any};
 ghost use Rattle.policy_text.specs.NameSets.{has_name};
 ghost use Rattle.policy_calls.specs.Callees.{nows, links_of};
 ghost use Rattle.junos_tree.specs.Sorts.{defines};
-ghost use Rattle.junos_tree.specs.declared.item.ItemSort.{ItemSort as SpecSort};
+ghost use Rattle.junos_tree.specs.declared.item.StatementSort.{StatementSort as SpecSort};
 ghost use Rattle.junos_reader.specs.Forms.{sort_code, is_not_plain};
 ghost use Rattle.junos_reader.specs.Facts.{facts_of};
 ghost use Rattle.junos_reader.specs.Before.{is_as};
@@ -15,7 +15,7 @@ use crate::flags::{TermChoice, going_on};
 use crate::forms::{has_wild, name_of_form, sort_code, sort_of_form};
 use crate::sets::{lent, names_behind, set_of};
 use crate::statements::{PolicyStatement, calls, statements, testers, used};
-use junos_tree::{ItemSort, JunosForm, JunosItem};
+use junos_tree::{JunosForm, JunosItem, StatementSort};
 use policy_calls::{Call, PairSet, called, leading_to, reached, too_deep, turning_back};
 use policy_text::{NameSet, add_name, has_name};
 use route_types::{Memory, Row};
@@ -42,15 +42,25 @@ pub(crate) struct Known<'a> {
 }
 
 // Whether the definition of this sort and name is reached.
-pub(crate) fn is_reached<'a>(known: &Known<'a>, sort: ItemSort, name: &'a [u8]) -> bool
+pub(crate) fn is_reached<'a>(known: &Known<'a>, sort: StatementSort, name: &'a [u8]) -> bool
     ensures { result ≡ known_reached known.now sort name.now }
 {
     match sort {
-        ItemSort::PrefixList => has_name(&known.used, name, sort_code(ItemSort::PrefixList), 0),
-        ItemSort::Community => has_name(&known.used, name, sort_code(ItemSort::Community), 0),
-        ItemSort::AsPath => has_name(&known.used, name, sort_code(ItemSort::AsPath), 0),
-        ItemSort::Policy => has_name(&known.reached, name, 0, 0),
-        ItemSort::Inner => has_name(&known.used, name, sort_code(ItemSort::Inner), 0),
+        StatementSort::PrefixList => has_name(
+            &known.used,
+            name,
+            sort_code(StatementSort::PrefixList),
+            0,
+        ),
+        StatementSort::Community => has_name(
+            &known.used,
+            name,
+            sort_code(StatementSort::Community),
+            0,
+        ),
+        StatementSort::AsPath => has_name(&known.used, name, sort_code(StatementSort::AsPath), 0),
+        StatementSort::Policy => has_name(&known.reached, name, 0, 0),
+        StatementSort::Inner => has_name(&known.used, name, sort_code(StatementSort::Inner), 0),
     }
 }
 

@@ -18,8 +18,8 @@ mod statements;
 pub use check::check_junos;
 pub use checked::CheckedJunos;
 pub use junos_tree::{
-    Action, CommunityAction, CommunityDefinition, CommunityVerb, Condition, Flow, ItemSort,
-    JunosForm, JunosItem, JunosTree, ListFilter, OtherItem, PathDefinition, Place, TermAction,
+    Action, CommunityAction, CommunityDefinition, CommunityVerb, Condition, Flow, JunosForm,
+    JunosItem, JunosTree, ListFilter, OtherItem, PathDefinition, Place, StatementSort, TermAction,
     TermCondition, forms_are_spelled, one_reading, read_junos,
 };
 pub use laws::first_fault_is_least;

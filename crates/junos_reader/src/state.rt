@@ -12,7 +12,7 @@ use crate::flags::{Flags, flags_behind, no_flags};
 use crate::forms::{filter_of, is_inner, is_unnamed, kind_of, name_of_form, sort_of_form};
 use crate::known::add_definition;
 use crate::sets::{PrefixSet, add_prefix};
-use junos_tree::{ItemSort, JunosForm};
+use junos_tree::{JunosForm, StatementSort};
 use policy_text::{NameSet, add_name};
 use route_types::{Memory, Row};
 use std::alloc::Global;
@@ -29,7 +29,7 @@ pub(crate) struct TermState {
 // in the named term and in the one without a name, and what the terms do.
 #[derive(Drop)]
 pub(crate) struct State<'a> {
-    pub(crate) definition: Option<(ItemSort, &'a [u8])>,
+    pub(crate) definition: Option<(StatementSort, &'a [u8])>,
     pub(crate) defined: NameSet<'a>,
     pub(crate) terms: NameSet<'a>,
     pub(crate) named: TermState,
@@ -96,7 +96,7 @@ fn note_statement(term: &mut TermState, form: &JunosForm) -> Result<(), Memory>
 }
 
 // The definition that a form starts.
-fn definition_of(form: &JunosForm) -> Option<(ItemSort, &[u8])>
+fn definition_of(form: &JunosForm) -> Option<(StatementSort, &[u8])>
     ensures { option_map (λ d. (d.0, d.1.now)) result ≡ definition_of form.now }
 {
     match name_of_form(form) {

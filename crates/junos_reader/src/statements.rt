@@ -7,7 +7,7 @@ ghost use Rattle.policy_calls.specs.Calls.{Link};
 ghost use Rattle.junos_reader.specs.Statements.{Statement, policy_behind, onto_statements, statements_from, statements_of, links_to, links_in, testers_in, names_it};
 ghost use Rattle.junos_reader.specs.Forms.{sort_code};
 ghost use Rattle.junos_reader.specs.Known.{plain_statements};
-ghost use Rattle.junos_tree.specs.declared.item.ItemSort.{ItemSort as SpecSort};
+ghost use Rattle.junos_tree.specs.declared.item.StatementSort.{StatementSort as SpecSort};
 
 use crate::forms::{called_by, is_inner, is_path_test, named_by, policy_in, sort_code};
 use junos_tree::{JunosForm, JunosItem};

@@ -1,7 +1,7 @@
 // The items of a tree as lines: each with its line and column and what it says.
 use crate::places::place;
 use junos_tree::{
-    Action, CommunityVerb, Condition, Flow, ItemSort, JunosForm, JunosTree, OtherItem,
+    Action, CommunityVerb, Condition, Flow, JunosForm, JunosTree, OtherItem, StatementSort,
 };
 use prefix_sets::PrefixRange;
 use route_types::{Address, NextHop, Origin, Prefix, Rect, Row, push_address, push_prefix};
@@ -131,13 +131,13 @@ fn action(alloc: Global, action: &Action) -> Result<String, Fail> {
     }
 }
 
-fn sort(sort: ItemSort) -> &'static str {
+fn sort(sort: StatementSort) -> &'static str {
     match sort {
-        ItemSort::PrefixList => "other prefix-list",
-        ItemSort::Community => "other community",
-        ItemSort::AsPath => "other as-path",
-        ItemSort::Policy => "other policy-statement",
-        ItemSort::Inner => "other",
+        StatementSort::PrefixList => "other prefix-list",
+        StatementSort::Community => "other community",
+        StatementSort::AsPath => "other as-path",
+        StatementSort::Policy => "other policy-statement",
+        StatementSort::Inner => "other",
     }
 }
 

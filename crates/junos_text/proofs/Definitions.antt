@@ -32,7 +32,7 @@ use Rattle.junos_tree.specs.declared.item.CommunityVerb.TheVariants.{Set, Add, D
 use Rattle.junos_tree.specs.declared.item.Condition.{Condition}
 use Rattle.junos_tree.specs.declared.item.Flow.{Flow}
 use Rattle.junos_tree.specs.declared.item.Flow.TheVariants.{Accept, Reject, NextTerm, NextPolicy}
-use Rattle.junos_tree.specs.declared.item.ItemSort.TheVariants.{Community as CommunitySort, AsPath as PathSort, Policy as PolicySort, Inner}
+use Rattle.junos_tree.specs.declared.item.StatementSort.TheVariants.{Community as CommunitySort, AsPath as PathSort, Policy as PolicySort, Inner}
 use Rattle.junos_tree.specs.declared.item.JunosForm.{JunosForm}
 use Rattle.junos_tree.specs.declared.item.JunosForm.TheVariants.{Community as CommunityForm, AsPath as PathForm, Policy as PolicyForm, Term}
 use Rattle.junos_tree.specs.declared.item.JunosItem.{JunosItem}

@@ -21,8 +21,8 @@ use Rattle.junos_tree.specs.declared.item.CommunityVerb.TheVariants.{Set, Delete
 use Rattle.junos_tree.specs.declared.item.Condition.{Condition}
 use Rattle.junos_tree.specs.declared.item.Condition.TheVariants.{Protocol, Community, Policy, ListFilter, Metric}
 use Rattle.junos_tree.specs.declared.item.Flow.TheVariants.{Accept, Reject, NextTerm, NextPolicy}
-use Rattle.junos_tree.specs.declared.item.ItemSort.{ItemSort}
-use Rattle.junos_tree.specs.declared.item.ItemSort.TheVariants.{Community as CommunitySort, Policy as PolicySort, Inner}
+use Rattle.junos_tree.specs.declared.item.StatementSort.{StatementSort}
+use Rattle.junos_tree.specs.declared.item.StatementSort.TheVariants.{Community as CommunitySort, Policy as PolicySort, Inner}
 use Rattle.junos_tree.specs.declared.item.JunosForm.{JunosForm}
 use Rattle.junos_tree.specs.declared.item.JunosForm.TheVariants.{PrefixList as ListForm, Member, Policy as PolicyForm, Term as TermForm, Condition as IsCondition, Action as IsAction, Other}
 
@@ -129,7 +129,7 @@ condition unnamed c = IsCondition (record { unnamed = unnamed; condition = c })
 action : Bool → Action → JunosForm
 action unnamed a = IsAction (record { unnamed = unnamed; action = a })
 
-other : ItemSort → Option (List ℕ) → JunosForm
+other : StatementSort → Option (List ℕ) → JunosForm
 other sort name = Other (record { sort = sort; name = name })
 
 -- each text with the forms of its tree

@@ -1,14 +1,14 @@
 -- What an item of a tree is, and the name that it stands under.
 use Rattle.std.specs.Prelude.{ℕ, Bool, true, false, ◌&&◌, List, Option, Some, None}
 use Rattle.policy_text.specs.Names.{is_named}
-use Rattle.junos_tree.specs.declared.item.ItemSort.{ItemSort}
-use Rattle.junos_tree.specs.declared.item.ItemSort.TheVariants.{PrefixList, Community, AsPath, Policy, Inner}
+use Rattle.junos_tree.specs.declared.item.StatementSort.{StatementSort}
+use Rattle.junos_tree.specs.declared.item.StatementSort.TheVariants.{PrefixList, Community, AsPath, Policy, Inner}
 use Rattle.junos_tree.specs.declared.item.JunosForm.{JunosForm}
 use Rattle.junos_tree.specs.declared.item.JunosForm.TheVariants.{PrefixList as ListForm, Community as CommunityForm, AsPath as PathForm, Policy as PolicyForm, Other}
 use Rattle.junos_tree.specs.declared.item.JunosItem.{JunosItem}
 
 -- what a form is
-abbrev pub sort_of_form : JunosForm → ItemSort
+abbrev pub sort_of_form : JunosForm → StatementSort
 sort_of_form (ListForm name) = PrefixList
 sort_of_form (CommunityForm c) = Community
 sort_of_form (PathForm p) = AsPath
@@ -26,7 +26,7 @@ name_of_form (Other o) = o.name
 name_of_form _ = None
 
 -- two sorts are the same
-abbrev pub same_sort : ItemSort → ItemSort → Bool
+abbrev pub same_sort : StatementSort → StatementSort → Bool
 same_sort PrefixList PrefixList = true
 same_sort Community Community = true
 same_sort AsPath AsPath = true
@@ -35,7 +35,7 @@ same_sort Inner Inner = true
 same_sort _ _ = false
 
 -- the sort of what stands in a block of a definition
-abbrev pub is_inner_sort : ItemSort → Bool
+abbrev pub is_inner_sort : StatementSort → Bool
 is_inner_sort Inner = true
 is_inner_sort _ = false
 
@@ -44,5 +44,5 @@ abbrev pub is_inner : JunosForm → Bool
 is_inner form = is_inner_sort (sort_of_form form)
 
 -- the item starts a definition of this sort and name, of whatever form
-abbrev pub defines : ItemSort → List ℕ → JunosItem → Bool
+abbrev pub defines : StatementSort → List ℕ → JunosItem → Bool
 defines sort name i = same_sort sort (sort_of_form i.form) && is_named name (name_of_form i.form)

@@ -16,8 +16,8 @@ use Rattle.policy_text.specs.Phrases.{texts, one_of}
 use Rattle.junos_tree.specs.Forms.{form_in}
 use Rattle.junos_tree.specs.declared.item.Action.{Action}
 use Rattle.junos_tree.specs.declared.item.Action.TheVariants.{Prepend}
-use Rattle.junos_tree.specs.declared.item.ItemSort.{ItemSort}
-use Rattle.junos_tree.specs.declared.item.ItemSort.TheVariants.{PrefixList, Community, AsPath, Policy, Inner}
+use Rattle.junos_tree.specs.declared.item.StatementSort.{StatementSort}
+use Rattle.junos_tree.specs.declared.item.StatementSort.TheVariants.{PrefixList, Community, AsPath, Policy, Inner}
 use Rattle.junos_tree.specs.declared.item.JunosForm.{JunosForm}
 use Rattle.junos_tree.specs.declared.item.JunosForm.TheVariants.{PrefixList as ListForm, AsPath as PathForm, Policy as PolicyForm, Term, Action as IsAction, Other}
 use Rattle.junos_tree.specs.declared.item.JunosItem.{JunosItem}
@@ -63,7 +63,7 @@ known_form place ender ws = do
 -- ---- the name that a statement stands under
 
 -- the four keywords of definitions
-abbrev pub keywords : List (List ℕ × ItemSort)
+abbrev pub keywords : List (List ℕ × StatementSort)
 keywords = (codes "prefix-list", PrefixList) ∷ (codes "community", Community) ∷ (codes "as-path", AsPath) ∷ (codes "policy-statement", Policy) ∷ []
 
 -- the first two words are a keyword and a name, neither of them quoted: what the statement stands under

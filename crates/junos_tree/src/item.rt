@@ -154,13 +154,13 @@ pub enum CommunityVerb {
 /// stands under none of its own.
 #[derive(Debug, Drop)]
 pub struct OtherItem {
-    pub sort: ItemSort,
+    pub sort: StatementSort,
     pub name: Option<Row<u8>>,
 }
 
 /// What a statement is, by its keyword and its place.
 #[derive(Clone, Copy, Debug, PartialEq, Eq)]
-pub enum ItemSort {
+pub enum StatementSort {
     /// It starts with `prefix-list` and a name.
     PrefixList,
     /// It starts with `community` and a name.

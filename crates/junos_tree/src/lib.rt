@@ -17,8 +17,8 @@ mod tree;
 mod words;
 
 pub use item::{
-    Action, CommunityAction, CommunityDefinition, CommunityVerb, Condition, Flow, ItemSort,
-    JunosForm, JunosItem, ListFilter, OtherItem, PathDefinition, TermAction, TermCondition,
+    Action, CommunityAction, CommunityDefinition, CommunityVerb, Condition, Flow, JunosForm,
+    JunosItem, ListFilter, OtherItem, PathDefinition, StatementSort, TermAction, TermCondition,
 };
 pub use laws::{forms_are_spelled, one_reading};
 pub use place::Place;

@@ -7,7 +7,7 @@ ghost use Rattle.policy_text.specs.Phrases.{one_of};
 ghost use Rattle.junos_tree.specs.Tree.{are_plain, are_plain_but_last, action_takes_quoted, takes_quoted, quotes_fit, known_form, keywords, head_in, other_at, is_opener, clause_opened, opened_at, or_other, said_at};
 
 use crate::definitions::form_in;
-use crate::item::{Action, ItemSort, JunosForm, OtherItem};
+use crate::item::{Action, JunosForm, OtherItem, StatementSort};
 use crate::place::{Place, Said};
 use policy_text::{Ender, Word, copied, is, is_name};
 use route_types::{Memory, Row};
@@ -78,20 +78,20 @@ fn known_form(
 
 // ---- the name that it stands under
 
-fn keyword_in(word: &Word) -> Option<ItemSort>
+fn keyword_in(word: &Word) -> Option<StatementSort>
     ensures { result ≡ one_of keywords word.now.text }
 {
     if is(word, b"prefix-list") {
-        return Some(ItemSort::PrefixList);
+        return Some(StatementSort::PrefixList);
     }
     if is(word, b"community") {
-        return Some(ItemSort::Community);
+        return Some(StatementSort::Community);
     }
     if is(word, b"as-path") {
-        return Some(ItemSort::AsPath);
+        return Some(StatementSort::AsPath);
     }
     if is(word, b"policy-statement") {
-        return Some(ItemSort::Policy);
+        return Some(StatementSort::Policy);
     }
     None
 }
@@ -119,10 +119,10 @@ fn head_in(alloc: Global, words: &[Word]) -> Result<Option<OtherItem>, Memory>
 }
 
 fn inner_other() -> OtherItem
-    ensures { result ≡ record { sort = ItemSort.Inner; name = None } }
+    ensures { result ≡ record { sort = StatementSort.Inner; name = None } }
 {
     OtherItem {
-        sort: ItemSort::Inner,
+        sort: StatementSort::Inner,
         name: None,
     }
 }

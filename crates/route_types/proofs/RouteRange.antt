@@ -7,7 +7,7 @@ use Rattle.route_types.specs.Address.{PrefixParts}
 use Rattle.route_types.specs.Words.{IsNumber, IsPrefix, IsCommunity}
 use Rattle.route_types.specs.Route.{RouteParts, InRange, IsNextHop}
 use Rattle.route_types.specs.Community.{set_of, with_member, IsAscending}
-use Rattle.route_types.specs.RouteText.{Each, IsOne, IsCommunitySet, words_by_line, SpellsNextHop, SpellsRoute}
+use Rattle.route_types.specs.RouteText.{Each, IsOne, IsCommunitySet, route_lines, words_by_line, SpellsNextHop, SpellsLine, SpellsRoute}
 use Rattle.route_types.specs.declared.address.Address.{Address}
 use Rattle.route_types.specs.declared.community.Community.{Community}
 use Rattle.route_types.specs.declared.route.NextHop.{NextHop}
@@ -15,7 +15,6 @@ use Rattle.route_types.specs.declared.route.NextHop.TheVariants.{At, Own}
 use Rattle.route_types.proofs.Spelled.{AreOctets}
 use Rattle.route_types.proofs.Printed.{IsPlain, address_fits, prefix_in_plain}
 use Rattle.route_types.proofs.RouteWords.{prefix_again}
-use Rattle.route_types.proofs.RouteSpelled.{split}
 use Rattle.route_types.proofs.Sets.{Order, member_before, member_behind, member_there, set_of_ascending}
 
 hop_in_range : (word : List ℕ) (n : NextHop) → SpellsNextHop word n → IsNextHop n
@@ -64,27 +63,37 @@ set_in_range name words set s =
 prefix_in_range : (name : List ℕ) (words : List (List ℕ)) (p : PrefixParts) → IsOne name IsPrefix words p → IsPlain p
 prefix_in_range name words p s = prefix_in_plain s.word p (prefix_again s.word p s.spelled)
 
--- a route that a text spells is in range
-pub spelled_in_range : (text : List ℕ) (r : RouteParts) → SpellsRoute text r → InRange r
-spelled_in_range text r s =
-    let a = split r (words_by_line text) _ _ s in
-    let b = split r a.behind _ _ a.more in
-    let c = split r b.behind _ _ b.more in
-    let d = split r c.behind _ _ c.more in
-    let e = split r d.behind _ _ d.more in
-    let f = split r e.behind _ _ e.more in
-    let g = split r f.behind _ _ f.more in
-    let h = split r g.behind _ _ g.more in
-    let plain = prefix_in_range (codes "route") a.words r.prefix a.spelled in
-    let set = set_in_range (codes "communities") h.words r.communities h.spelled in
+-- lines that spell a route, a line each part, say that it is in range
+lines_in_range : (r : RouteParts) (lines : List (List (List ℕ))) → Each (SpellsLine r) lines route_lines → InRange r
+lines_in_range r [] s = absurd s
+lines_in_range r (a ∷ []) s = absurd s.1
+lines_in_range r (a ∷ b ∷ []) s = absurd s.1.1
+lines_in_range r (a ∷ b ∷ c ∷ []) s = absurd s.1.1.1
+lines_in_range r (a ∷ b ∷ c ∷ d ∷ []) s = absurd s.1.1.1.1
+lines_in_range r (a ∷ b ∷ c ∷ d ∷ e ∷ []) s = absurd s.1.1.1.1.1
+lines_in_range r (a ∷ b ∷ c ∷ d ∷ e ∷ f ∷ []) s = absurd s.1.1.1.1.1.1
+lines_in_range r (a ∷ b ∷ c ∷ d ∷ e ∷ f ∷ g ∷ []) s = absurd s.1.1.1.1.1.1.1
+lines_in_range r (a ∷ b ∷ c ∷ d ∷ e ∷ f ∷ g ∷ h ∷ []) s =
+    let plain = prefix_in_range (codes "route") a r.prefix s.0 in
+    let hop = s.1.0 in
+    let path = s.1.1.0 in
+    let preference = s.1.1.1.1.0 in
+    let med = s.1.1.1.1.1.0 in
+    let weight = s.1.1.1.1.1.1.0 in
+    let set = set_in_range (codes "communities") h r.communities s.1.1.1.1.1.1.1.0 in
     record {
       family = plain.family;
       prefix = plain.masked;
-      next_hop = hop_in_range b.spelled.word r.next_hop b.spelled.spelled;
-      path = numbers_in_range c.spelled.behind r.path c.spelled.spelled;
-      local_preference = omega (arith, e.spelled.spelled.within);
-      med = omega (arith, f.spelled.spelled.within);
-      weight = omega (arith, g.spelled.spelled.within);
+      next_hop = hop_in_range hop.word r.next_hop hop.spelled;
+      path = numbers_in_range path.behind r.path path.spelled;
+      local_preference = omega (arith, preference.spelled.within);
+      med = omega (arith, med.spelled.within);
+      weight = omega (arith, weight.spelled.within);
       communities = set.0;
       ascending = set.1;
     }
+lines_in_range r (a ∷ b ∷ c ∷ d ∷ e ∷ f ∷ g ∷ h ∷ i ∷ ls) s = absurd s.1.1.1.1.1.1.1.1
+
+-- a route that a text spells is in range
+pub spelled_in_range : (text : List ℕ) (r : RouteParts) → SpellsRoute text r → InRange r
+spelled_in_range text r s = lines_in_range r (words_by_line text) s

@@ -129,14 +129,14 @@ route_found text r e =
 -- ---- what is spelled is found
 
 -- the first line of a route's text, and the lines behind it
-pub record Splits (r : RouteParts) (lines : List (List (List ℕ))) (kind : LineKind) (kinds : List LineKind) : Type 0 where
+record Splits (r : RouteParts) (lines : List (List (List ℕ))) (kind : LineKind) (kinds : List LineKind) : Type 0 where
   pub words : List (List ℕ)
   pub behind : List (List (List ℕ))
   pub are : lines ≡ words ∷ behind
   pub spelled : SpellsLine r words kind
   pub more : Each (SpellsLine r) behind kinds
 
-pub split : (r : RouteParts) (lines : List (List (List ℕ))) (kind : LineKind) (kinds : List LineKind) → Each (SpellsLine r) lines (kind ∷ kinds) → Splits r lines kind kinds
+split : (r : RouteParts) (lines : List (List (List ℕ))) (kind : LineKind) (kinds : List LineKind) → Each (SpellsLine r) lines (kind ∷ kinds) → Splits r lines kind kinds
 split r [] kind kinds s = absurd s
 split r (w ∷ ls) kind kinds s = record { words = w; behind = ls; are = refl; spelled = s.0; more = s.1 }
 

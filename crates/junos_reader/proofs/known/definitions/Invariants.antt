@@ -2,12 +2,12 @@ use Rattle.std.proofs.Common.{◌≡◌, ◌||◌, ℕ, List, length}
 use Rattle.std.specs.List.{list_any}
 use Rattle.policy_text.specs.NameSets.{has_name}
 use Rattle.junos_tree.specs.Sorts.{defines}
-use Rattle.junos_tree.specs.declared.item.ItemSort.{ItemSort}
+use Rattle.junos_tree.specs.declared.item.StatementSort.{StatementSort}
 use Rattle.junos_reader.specs.Forms.{sort_code}
 use Rattle.junos_reader.proofs.known.definitions.Given as goal
 
 abbrev pub invariant-loop-rest : goal.invariant-loop-rest
-invariant-loop-rest l = (sort : ItemSort) (q : List ℕ) → (has_name l.set q (sort_code sort) 0 || list_any (defines sort q) l.rest) ≡ list_any (defines sort q) l.items
+invariant-loop-rest l = (sort : StatementSort) (q : List ℕ) → (has_name l.set q (sort_code sort) 0 || list_any (defines sort q) l.rest) ≡ list_any (defines sort q) l.items
 
 abbrev pub decreases-loop-rest : goal.decreases-loop-rest
 decreases-loop-rest l = length l.rest
