@@ -4,4 +4,8 @@ pub mod WordLaws
 pub mod ConditionLaws
 pub mod WalkLaws
 pub mod StepLaws
+pub mod KnownLaws
 pub mod RunLaws
+pub mod CommunityLaws
+pub mod OutcomeLaws
+pub mod ActionLaws

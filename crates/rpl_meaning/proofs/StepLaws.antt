@@ -1,9 +1,9 @@
 -- What each form does where the walk of the code stands.
 use Rattle.std.proofs.Common.{◌≡◌, refl, sym, ap, ◌∙◌, ℕ, zero, suc, ◌<◌, Bool, true, false, Option, Some, None, List, [], arith}
 use Rattle.std.specs.Borrow.{Bor}
-use Rattle.route_types.specs.Address.{PrefixParts}
-use Rattle.route_drafts.specs.Drafts.{route_of}
-use Rattle.route_drafts.specs.declared.draft.Draft.{Draft}
+use Rattle.rpl_effects.specs.declared.effect.Changes.{Changes}
+use Rattle.rpl_effects.specs.declared.effect.Effect.TheVariants.{Accepted, Rejected}
+use Rattle.rpl_meaning.specs.declared.communities.CommunityStep.{CommunityStep}
 use Rattle.rpl_words.specs.declared.condition.Term.{Term}
 use Rattle.rpl_forms.specs.declared.item.Action.{Action}
 use Rattle.rpl_forms.specs.declared.item.Apply.{Apply}
@@ -18,12 +18,10 @@ use Rattle.rpl_meaning.specs.Sets.{Bindings}
 use Rattle.rpl_meaning.specs.Conditions.{test_holds, terms_hold}
 use Rattle.rpl_meaning.specs.Meaning.{State, Fate, acted}
 use Rattle.rpl_meaning.specs.Steps.{Does, after, running_with, branch_by, passed, word_of_form, statement_in, else_if_in, over_behind, end_behind, branch_behind, run_behind}
-use Rattle.rpl_meaning.specs.Walk.{chosen, left, sought, state_of}
+use Rattle.rpl_meaning.specs.Walk.{Run, Start, chosen, left, sought, route_at, state_of}
 use Rattle.rpl_meaning.specs.declared.tests.World.{World}
-use Rattle.rpl_meaning.specs.declared.walk.Ending.TheVariants.{Accepted, Rejected}
 use Rattle.rpl_meaning.specs.declared.walk.Mode.{Mode}
 use Rattle.rpl_meaning.specs.declared.walk.Mode.TheVariants.{Running, Seeking, Leaving}
-use Rattle.rpl_meaning.specs.declared.walk.Run.{Run}
 use Rattle.rpl_meaning.specs.declared.walk.Step.{Step}
 use Rattle.rpl_meaning.specs.declared.walk.Step.TheVariants.{On, Calls, Ended}
 use Rattle.rpl_meaning.proofs.WalkLaws.{Going, go, by_answer, at_if, at_else_if, at_branch_end, at_end_if, at_pass, at_done, at_drop, at_action, at_apply, at_the_end, around_statement, around_other, end_of_statement, end_of_other, branch_of_statement, branch_of_other, run_of_other, IsNoElseIf}
@@ -33,7 +31,7 @@ abbrev pub going : World → Bindings → (Apply → State → Fate) → Going
 going w bs call = (terms_hold (test_holds (forms w.items.now) bs w.route.now) [], acted (forms w.items.now) bs, call)
 
 -- where the next branch is looked for, and `if`s that are passed over are open
-pub seeking_past : (g : Going) (f : RplForm) (over : ℕ) → 0 < over → (p : PrefixParts) (r : Rest) (run : Run)
+pub seeking_past : (g : Going) (f : RplForm) (over : ℕ) → 0 < over → (p : Start) (r : Rest) (run : Run)
     → after (go g) g.2 p r (passed (Seeking (over_behind (word_of_form f) over)) f run) ≡ chosen (go g) (Seeking over) (with_form f r) (state_of p run)
 seeking_past g f zero h p r run = absurd (omega arith)
 seeking_past g (Header x) (suc k) h p r run = sym (at_the_end g (Seeking (suc k)) (state_of p run))
@@ -43,7 +41,7 @@ seeking_past g End (suc k) h p r run = sym (at_the_end g (Seeking (suc k)) (stat
 seeking_past g (Other o) (suc k) h p r run = ap (λ (ls : List Level). sought (go g) ls (state_of p run)) (around_other o.keyword k r)
 
 -- where the end of an `if` is looked for, and `if`s that are passed over are open
-pub leaving_past : (g : Going) (f : RplForm) (over : ℕ) → 0 < over → (p : PrefixParts) (r : Rest) (run : Run)
+pub leaving_past : (g : Going) (f : RplForm) (over : ℕ) → 0 < over → (p : Start) (r : Rest) (run : Run)
     → after (go g) g.2 p r (passed (Leaving (over_behind (word_of_form f) over)) f run) ≡ chosen (go g) (Leaving over) (with_form f r) (state_of p run)
 leaving_past g f zero h p r run = absurd (omega arith)
 leaving_past g (Header x) (suc k) h p r run = sym (at_the_end g (Leaving (suc k)) (state_of p run))
@@ -53,7 +51,7 @@ leaving_past g End (suc k) h p r run = sym (at_the_end g (Leaving (suc k)) (stat
 leaving_past g (Other o) (suc k) h p r run = ap (λ (ls : List Level). left (go g) ls (state_of p run)) (around_other o.keyword k r)
 
 -- where the end of an `if` is looked for, and none that is passed over is open
-pub leaving_here : (g : Going) (f : RplForm) (p : PrefixParts) (r : Rest) (run : Run)
+pub leaving_here : (g : Going) (f : RplForm) (p : Start) (r : Rest) (run : Run)
     → after (go g) g.2 p r (passed (end_behind (word_of_form f)) f run) ≡ chosen (go g) (Leaving 0) (with_form f r) (state_of p run)
 leaving_here g (Header x) p r run = sym (at_the_end g (Leaving 0) (state_of p run))
 leaving_here g (Element x) p r run = sym (at_the_end g (Leaving 0) (state_of p run))
@@ -73,7 +71,7 @@ no_else_if (Act a) e = tt
 no_else_if (Applies a) e = tt
 
 -- where the next branch is looked for: all but `elseif`
-pub seeking_here : (g : Going) (f : RplForm) → else_if_in f ≡ None → (p : PrefixParts) (r : Rest) (run : Run)
+pub seeking_here : (g : Going) (f : RplForm) → else_if_in f ≡ None → (p : Start) (r : Rest) (run : Run)
     → after (go g) g.2 p r (passed (branch_behind (word_of_form f)) f run) ≡ chosen (go g) (Seeking 0) (with_form f r) (state_of p run)
 seeking_here g (Header x) e p r run = sym (at_the_end g (Seeking 0) (state_of p run))
 seeking_here g (Element x) e p r run = sym (at_the_end g (Seeking 0) (state_of p run))
@@ -108,7 +106,7 @@ statement_is End st e = cc
 statement_is (Other o) st e = cc
 
 -- where a branch runs: what is no statement
-running_past : (g : Going) (f : RplForm) → statement_in f ≡ None → (p : PrefixParts) (r : Rest) (run : Run)
+running_past : (g : Going) (f : RplForm) → statement_in f ≡ None → (p : Start) (r : Rest) (run : Run)
     → after (go g) g.2 p r (passed (run_behind (word_of_form f)) f run) ≡ chosen (go g) Running (with_form f r) (state_of p run)
 running_past g (Header x) e p r run = sym (at_the_end g Running (state_of p run))
 running_past g (Element x) e p r run = sym (at_the_end g Running (state_of p run))
@@ -133,7 +131,7 @@ branch_chosen g false r s = refl
 abbrev answer_in : World → Bindings → List Term → Bool
 answer_in w bs terms = terms_hold (test_holds (forms w.items.now) bs w.route.now) [] terms
 
-behind_branch : (w : World) (bs : Bindings) (run : Run) (b : Bool) (x : Step) (call : Apply → State → Fate) (p : PrefixParts) (r : Rest) → x ≡ On (record { mode = branch_by b; run = run })
+behind_branch : (w : World) (bs : Bindings) (run : Run) (b : Bool) (x : Step) (call : Apply → State → Fate) (p : Start) (r : Rest) → x ≡ On (record { mode = branch_by b; run = run })
     → after (running_with w bs call) call p r x ≡ by_answer (going w bs call) b r (state_of p run)
 behind_branch w bs run b x call p r made =
     ap (λ (z : Step). after (running_with w bs call) call p r z) made
@@ -147,10 +145,10 @@ pub else_if_does : (w : World) (bs : Bindings) (terms : List Term) (run : Run) (
     → Does w bs (Seeking 0) (Statement (ElseIf terms)) run x
 else_if_does w bs terms run b x holds made = λ call p r. behind_branch w bs run b x call p r made ∙ at_else_if (going w bs call) terms r (state_of p run) b (sym holds)
 
-pub action_does : (w : World) (bs : Bindings) (a : Action) (run : Run) (d : Draft) (x : Step) → ((p : PrefixParts) → route_of p d ≡ acted (forms w.items.now) bs a (route_of p run.draft))
-    → x ≡ On (record { mode = Running; run = record { ticket = true; draft = d } }) → Does w bs Running (Statement (Act a)) run x
-action_does w bs a run d x made is = λ call p r.
-    ap (λ (z : Step). after (running_with w bs call) call p r z) is ∙ at_action (going w bs call) a r (state_of p run) (route_of p d) (made p)
+pub action_does : (w : World) (bs : Bindings) (a : Action) (run : Run) (c : Changes CommunityStep) (x : Step) → ((p : Start) → route_at p c ≡ acted (forms w.items.now) bs a (route_at p run.changes))
+    → x ≡ On (record { mode = Running; run = record { ticket = true; changes = c } }) → Does w bs Running (Statement (Act a)) run x
+action_does w bs a run c x made is = λ call p r.
+    ap (λ (z : Step). after (running_with w bs call) call p r z) is ∙ at_action (going w bs call) a r (state_of p run) (route_at p c) (made p)
 
 pub else_if_leaves : (w : World) (bs : Bindings) (c : List Term) (run : Run) → Does w bs Running (Statement (ElseIf c)) run (On (record { mode = Leaving 0; run = run }))
 else_if_leaves w bs c run = λ call p r. at_branch_end (going w bs call) (Branch c r.here (innermost r.around).other Stop) r (state_of p run)
@@ -161,10 +159,10 @@ else_leaves w bs run = λ call p r. at_branch_end (going w bs call) r.here r (st
 pub end_if_goes : (w : World) (bs : Bindings) (run : Run) → Does w bs Running (Statement EndIf) run (On (record { mode = Running; run = run }))
 end_if_goes w bs run = λ call p r. at_end_if (going w bs call) r (state_of p run)
 
-pub pass_goes : (w : World) (bs : Bindings) (run : Run) → Does w bs Running (Statement Pass) run (On (record { mode = Running; run = record { ticket = true; draft = run.draft } }))
+pub pass_goes : (w : World) (bs : Bindings) (run : Run) → Does w bs Running (Statement Pass) run (On (record { mode = Running; run = record { ticket = true; changes = run.changes } }))
 pass_goes w bs run = λ call p r. at_pass (going w bs call) r (state_of p run)
 
-pub done_ends : (w : World) (bs : Bindings) (run : Run) → Does w bs Running (Statement Done) run (Ended (Accepted run.draft))
+pub done_ends : (w : World) (bs : Bindings) (run : Run) → Does w bs Running (Statement Done) run (Ended (Accepted run.changes))
 done_ends w bs run = λ call p r. at_done (going w bs call) r (state_of p run)
 
 pub drop_ends : (w : World) (bs : Bindings) (run : Run) → Does w bs Running (Statement Drop) run (Ended Rejected)

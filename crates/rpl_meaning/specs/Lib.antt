@@ -3,6 +3,7 @@ pub mod Handed
 pub mod Blocks
 pub mod Conditions
 pub mod Meaning
+pub mod Communities
 pub mod Walk
 pub mod Steps
 pub mod Runs

@@ -1,6 +1,5 @@
 -- What one statement does in the walk over those of a policy.
 use Rattle.std.specs.Prelude.{◌≡◌, ℕ, ◌+◌, ◌-◌, Bool, true, false, List, [], Option, Some, None}
-use Rattle.route_types.specs.Address.{PrefixParts}
 use Rattle.rpl_forms.specs.declared.item.Apply.{Apply}
 use Rattle.rpl_forms.specs.declared.item.IfWord.{IfWord}
 use Rattle.rpl_forms.specs.declared.item.IfWord.TheVariants.{If as IfWordIf, ElseIf as IfWordElseIf, Else as IfWordElse, EndIf as IfWordEndIf}
@@ -14,12 +13,11 @@ use Rattle.rpl_meaning.specs.Meaning.{State, Fate, then_on, acted, run, run_poli
 use Rattle.rpl_tree.specs.Nesting.{Steps, Rest, with_form}
 use Rattle.rpl_meaning.specs.Sets.{Bindings}
 use Rattle.rpl_tree.specs.Tree.{forms}
-use Rattle.rpl_meaning.specs.Walk.{chosen, state_of, fate_of}
+use Rattle.rpl_meaning.specs.Walk.{Run, Start, chosen, state_of, fate_of}
 use Rattle.rpl_meaning.specs.declared.tests.World.{World}
 use Rattle.rpl_meaning.specs.declared.walk.Mode.{Mode}
 use Rattle.rpl_meaning.specs.declared.walk.Mode.TheVariants.{Running, Seeking, Leaving}
-use Rattle.rpl_meaning.specs.declared.walk.Run.{Run}
-use Rattle.rpl_meaning.specs.declared.walk.Ending.TheVariants.{GoesOn}
+use Rattle.rpl_effects.specs.declared.effect.Effect.TheVariants.{GoesOn}
 use Rattle.rpl_meaning.specs.declared.walk.Step.{Step}
 use Rattle.rpl_meaning.specs.declared.walk.Step.TheVariants.{On, Calls, Ended}
 
@@ -36,7 +34,7 @@ abbrev pub running_in : World → ℕ → Bindings → Steps → State → Fate
 running_in w levels bs = running_with w bs (called_in w levels bs)
 
 -- what is left to run behind a step
-abbrev pub after : (Steps → State → Fate) → (Apply → State → Fate) → PrefixParts → Rest → Step → Fate
+abbrev pub after : (Steps → State → Fate) → (Apply → State → Fate) → Start → Rest → Step → Fate
 after go call p r (On place) = chosen go place.mode r (state_of p place.run)
 after go call p r (Calls a run) = then_on (chosen go Running r) (call a.now (state_of p run))
 after go call p r (Ended ending) = fate_of p ending
@@ -44,7 +42,7 @@ after go call p r (Ended ending) = fate_of p ending
 -- a step is what a form does where the walk stands, whatever applied policies do and stands behind it
 abbrev pub Does : World → Bindings → Mode → RplForm → Run → Step → Type 0
 Does w bs mode f run x =
-    (call : Apply → State → Fate) (p : PrefixParts) (r : Rest) → after (running_with w bs call) call p r x ≡ chosen (running_with w bs call) mode (with_form f r) (state_of p run)
+    (call : Apply → State → Fate) (p : Start) (r : Rest) → after (running_with w bs call) call p r x ≡ chosen (running_with w bs call) mode (with_form f r) (state_of p run)
 
 -- where the walk stands behind a condition: in its branch, or where the next one is looked for
 abbrev pub branch_by : Bool → Mode

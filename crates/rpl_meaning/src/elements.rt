@@ -55,7 +55,7 @@ impl SetSort<PathElement> for PathSets {
 
 // The elements at the front of items.
 #[tactic(auto, unfolding(crate::specs::Sets::elements))]
-fn elements_at<'a, E, S: SetSort<E>>(
+pub(crate) fn elements_at<'a, E, S: SetSort<E>>(
     alloc: Global,
     items: &'a [RplItem],
 ) -> Result<Vec<&'a E>, Memory>
@@ -74,7 +74,7 @@ fn elements_at<'a, E, S: SetSort<E>>(
 }
 
 // The elements, each lent.
-fn lent<'a, E>(alloc: Global, elements: &'a [E]) -> Result<Vec<&'a E>, Memory>
+pub(crate) fn lent<'a, E>(alloc: Global, elements: &'a [E]) -> Result<Vec<&'a E>, Memory>
     ensures { IfOk result (λ v. map (λ e. e.now) v.items ≡ elements.now) }
 {
     let mut found = Vec::new(alloc);
@@ -87,7 +87,7 @@ fn lent<'a, E>(alloc: Global, elements: &'a [E]) -> Result<Vec<&'a E>, Memory>
 }
 
 // What stands below the first line of the block of this name.
-fn below_first<'a>(blocks: &Blocks<'a>, name: &'a [u8]) -> &'a [RplItem]
+pub(crate) fn below_first<'a>(blocks: &Blocks<'a>, name: &'a [u8]) -> &'a [RplItem]
     ensures { forms result.now ≡ below (block_or blocks.now.entries name.now []) }
 {
     match blocks.get(name) {

@@ -1,22 +1,24 @@
 //! The run of a policy, and the judge.
-ghost use Rattle.std.specs.Prelude.{◌≡◌, ◌≤◌, ◌^◌, List, ℕ, [], ◌∷◌, IfOk};
-ghost use Rattle.route_types.specs.Address.{PrefixParts};
+ghost use Rattle.std.specs.Prelude.{◌≡◌, ◌<◌, ◌≤◌, ◌^◌, List, ℕ, [], ◌∷◌, ◌++◌, ◌||◌, IfOk, IfSome, OnOk, Some, length, slice_get};
 ghost use Rattle.rpl_meaning.specs.Blocks.{IsWorld, word_in};
-ghost use Rattle.route_drafts.specs.Drafts.{route_of};
-ghost use Rattle.rpl_meaning.specs.Meaning.{Fate, run_policy, run_rest, body_of, arriving, at_end, rpl_meaning, name_of};
+ghost use Rattle.rpl_meaning.specs.Meaning.{State, Fate, run_policy, body_of, arriving, at_end, then_on, rpl_meaning, name_of};
 ghost use Rattle.rpl_meaning.specs.Sets.{parameters_of, block_at, policy_named, below};
 ghost use Rattle.rpl_tree.specs.Tree.{forms};
-ghost use Rattle.rpl_tree.specs.Nesting.{nested};
-ghost use Rattle.rpl_meaning.specs.Runs.{Leads, behind_apply};
-ghost use Rattle.rpl_meaning.specs.Steps.{running_in, called_in};
-ghost use Rattle.rpl_meaning.specs.Walk.{state_of, fate_of};
+ghost use Rattle.rpl_tree.specs.Nesting.{Steps, Rest};
+ghost use Rattle.rpl_meaning.specs.Runs.{IsKnown, IsFound, IsRun, Leads, Covers, left_by, fate_at};
+ghost use Rattle.rpl_effects.specs.Kept.{kept_at};
+ghost use Rattle.rpl_meaning.specs.Steps.{called_in};
+ghost use Rattle.rpl_meaning.specs.Walk.{Ending, Start, chosen, state_of};
+ghost use Rattle.rpl_meaning.specs.declared.walk.Mode.TheVariants.{Running};
 
+use crate::known::{Known, all_levels, covers, in_both, key_of, no_levels, one_more};
+use crate::outcome::outcome_of;
 use crate::tests::{World, world_of};
-use crate::walk::{Ending, Mode, Place, Run, Step, taken};
+use crate::walk::{Mode, Place, RplEffect, RplRun, Step, taken};
 use crate::words::{Words, handed};
 use name_maps::NameMap;
-use route_drafts::Draft;
 use route_types::{Memory, Outcome, Route, Row};
+use rpl_effects::{Changes, Effect, Found, Kept, Levels, Run, lent};
 use rpl_reader::CheckedRpl;
 use rpl_tree::{Apply, Header, RplForm, RplItem};
 use std::alloc::Global;
@@ -55,43 +57,116 @@ fn parameters_of<'a>(world: &World<'a>, name: &'a [u8]) -> &'a [Row<u8>]
 
 // What a form comes to.
 #[derive(Drop)]
-pub(crate) enum Next {
+pub(crate) enum Next<'a> {
     /// The walk stands there.
-    On(Place),
-    Ended(Ending),
+    On(Place<'a>),
+    Ended(RplEffect<'a>),
 }
 
-// What an `apply` comes to by how the applied policy ended.
-fn behind_apply(ending: Ending) -> Next
-    ensures { result ≡ behind_apply ending }
+// What a form comes to, and for which numbers of levels.
+#[derive(Drop)]
+pub(crate) struct Turn<'a> {
+    pub(crate) next: Next<'a>,
+    pub(crate) held: Levels,
+}
+
+// What stands in a policy does, and for which numbers of levels.
+#[derive(Drop)]
+pub(crate) struct Body<'a> {
+    pub(crate) effect: RplEffect<'a>,
+    pub(crate) levels: Levels,
+}
+
+fn either(one: bool, other: bool) -> bool
+    ensures { result ≡ (one || other) }
 {
-    match ending {
-        Ending::GoesOn(run) => Next::On(Place {
-            mode: Mode::Running,
-            run,
-        }),
-        Ending::Accepted(draft) => Next::Ended(Ending::Accepted(draft)),
-        Ending::Rejected => Next::Ended(Ending::Rejected),
+    one || other
+}
+
+// What an `apply` comes to by what the applied policy does: where it goes on, so does the walk.
+fn behind_apply<'a>(
+    effect: &RplEffect<'a>,
+    place: usize,
+    before: RplRun<'a>,
+) -> Result<Next<'a>, Memory>
+    ensures { IfOk result (λ n. (go : Steps → State → Fate) (p : Start) (r : Rest) → slice_get p.table place ≡ Some effect.now → left_by go p r n ≡ then_on (chosen go Running r) (fate_at p.table place (state_of p before.entry))) }
+{
+    let Run { ticket, changes } = before;
+    match effect {
+        Effect::GoesOn(later) => {
+            let ticket = either(later.ticket, ticket);
+            let changes = changes.and_then(&later.changes, place)?;
+            Ok(Next::On(Place {
+                mode: Mode::Running,
+                run: Run { ticket, changes },
+            }))
+        }
+        Effect::Accepted(later) => {
+            let changes = changes.and_then(later, place)?;
+            Ok(Next::Ended(Effect::Accepted(changes)))
+        }
+        Effect::Rejected => Ok(Next::Ended(Effect::Rejected)),
     }
 }
 
-// The run over the statements of the policy of this name, with so many levels of `apply` below it.
+// Puts the effect of a policy behind those of the table.
+fn keep<'a>(known: &mut Known<'a>, effect: RplEffect<'a>, levels: Levels) -> Result<Found, Memory>
+    ensures found { IfOk result (λ f. f ≡ record { place = length known.old.effects.items; levels = levels }) }
+    ensures effects { OnOk result (known.new.effects.items ≡ known.old.effects.items ++ effect.entry ∷ []) }
+    ensures kept { OnOk result (known.new.kept ≡ known.old.kept) }
+{
+    let place = known.effects.len();
+    known.effects.push(effect)?;
+    Ok(Found { place, levels })
+}
+
+// A run that did nothing so far.
+fn fresh<'a>(alloc: Global) -> RplRun<'a>
+    ensures { (p : Start) → state_of p result ≡ p.state }
+{
+    Run {
+        ticket: false,
+        changes: Changes::none(alloc),
+    }
+}
+
+// What was found for these words, if it is what the policy does with so many levels.
+fn found_before<'a>(known: &Known<'a>, key: &Vec<&'a [u8]>, levels: u8) -> Option<Found>
+    ensures kept { IfSome result (λ f. kept_at known.now.kept.entries key.now ≡ Some f) }
+    ensures covers { IfSome result (λ f. Covers f.levels levels) }
+{
+    match known.kept.get(key) {
+        Some(found) => {
+            if covers(found.levels, levels) {
+                return Some(found);
+            }
+            None
+        }
+        None => None,
+    }
+}
+
+// The run of the policy of this name, with so many levels of `apply` below it.
 #[cycle(policies)]
 fn run_policy<'a>(
     alloc: Global,
     world: &World<'a>,
+    known: &mut Known<'a>,
     levels: u8,
     name: &'a [u8],
     words: &Words<'a>,
-    start: Run,
-) -> Result<Ending, Memory>
-    requires { IsWorld world.now }
-    ensures { IfOk result (λ e. (p : PrefixParts) → fate_of p e ≡ run_policy levels (forms world.now.items.now) world.now.route.now (word_in words.now.entries) name.now (state_of p start)) }
+) -> Result<Found, Memory>
+    requires world { IsWorld world.now }
+    requires known { IsKnown world.now known.old }
+    ensures { IfOk result (λ f. IsFound world.now known.old known.new levels (λ n s. run_policy n (forms world.now.items.now) world.now.route.now (word_in words.now.entries) name.now s) f) }
 {
     if levels == 0 {
-        return Ok(Ending::GoesOn(start));
+        let found = keep(known, Effect::GoesOn(fresh(alloc)), no_levels())?;
+        return Ok(found);
     }
-    run_body(alloc, world, levels - 1, words, body_of(world, name), start)
+    let body = run_body(alloc, world, known, levels - 1, words, body_of(world, name))?;
+    let found = keep(known, body.effect, one_more(body.levels, levels))?;
+    Ok(found)
 }
 
 // The run over what stands in a policy, with so many levels of `apply` left.
@@ -99,29 +174,54 @@ fn run_policy<'a>(
 fn run_body<'a>(
     alloc: Global,
     world: &World<'a>,
+    known: &mut Known<'a>,
     levels: u8,
     words: &Words<'a>,
     body: &'a [RplItem],
-    start: Run,
-) -> Result<Ending, Memory>
-    requires { IsWorld world.now }
-    ensures { IfOk result (λ e. (p : PrefixParts) → fate_of p e ≡ run_rest (running_in world.now levels (word_in words.now.entries)) (nested (forms body.now)) (state_of p start)) }
+) -> Result<Body<'a>, Memory>
+    requires world { IsWorld world.now }
+    requires known { IsKnown world.now known.old }
+    ensures { IfOk result (λ b. IsRun world.now known.old known.new levels (word_in words.now.entries) (forms body.now) b) }
 {
     let mut mode = Mode::Running;
-    let mut run = start;
+    let mut run = fresh(alloc);
+    let mut held = all_levels();
     let mut rest = body;
     while let [first, tail @ ..] = rest {
-        let next = stepped(alloc, world, levels, words, mode, &first.form, run)?;
+        let turn = stepped(
+            alloc,
+            world,
+            known,
+            levels,
+            words,
+            mode,
+            &first.form,
+            run,
+            held,
+        )?;
+        let Turn {
+            next,
+            held: narrower,
+        } = turn;
+        held = narrower;
         match next {
             Next::On(place) => {
                 mode = place.mode;
                 run = place.run;
             }
-            Next::Ended(ending) => return Ok(ending),
+            Next::Ended(effect) => {
+                return Ok(Body {
+                    effect,
+                    levels: held,
+                });
+            }
         }
         rest = tail;
     }
-    Ok(Ending::GoesOn(run))
+    Ok(Body {
+        effect: Effect::GoesOn(run),
+        levels: held,
+    })
 }
 
 // What a form comes to where the walk stands, with all that an applied policy does.
@@ -129,72 +229,64 @@ fn run_body<'a>(
 fn stepped<'a>(
     alloc: Global,
     world: &World<'a>,
+    known: &mut Known<'a>,
     levels: u8,
     words: &Words<'a>,
     mode: Mode,
     form: &'a RplForm,
-    run: Run,
-) -> Result<Next, Memory>
-    requires { IsWorld world.now }
-    ensures { IfOk result (λ n. Leads world.now levels (word_in words.now.entries) mode form.now run n) }
+    run: RplRun<'a>,
+    held: Levels,
+) -> Result<Turn<'a>, Memory>
+    requires world { IsWorld world.now }
+    requires known { IsKnown world.now known.old }
+    ensures { IfOk result (λ x. Leads world.now known.old known.new levels (word_in words.now.entries) mode form.now run.entry held x) }
 {
     let step = taken(alloc, world, words, mode, form, run)?;
     match step {
-        Step::On(place) => Ok(Next::On(place)),
+        Step::On(place) => Ok(Turn {
+            next: Next::On(place),
+            held,
+        }),
         Step::Calls(apply, before) => {
-            let ending = applied(alloc, world, levels, words, apply, before)?;
-            Ok(behind_apply(ending))
+            let found = applied(alloc, world, known, levels, words, apply)?;
+            let effect = lent(known.effects.as_slice(), found.place);
+            let next = behind_apply(effect, found.place, before)?;
+            Ok(Turn {
+                next,
+                held: in_both(held, found.levels),
+            })
         }
-        Step::Ended(ending) => Ok(Next::Ended(ending)),
+        Step::Ended(effect) => Ok(Turn {
+            next: Next::Ended(effect),
+            held,
+        }),
     }
 }
 
-// The run of an applied policy.
+// The effect of an applied policy: the one that was found for its words, or that of its run.
 #[cycle(policies)]
 fn applied<'a>(
     alloc: Global,
     world: &World<'a>,
+    known: &mut Known<'a>,
     levels: u8,
     words: &Words<'a>,
     apply: &'a Apply,
-    before: Run,
-) -> Result<Ending, Memory>
-    requires { IsWorld world.now }
-    ensures { IfOk result (λ e. (p : PrefixParts) → fate_of p e ≡ called_in world.now levels (word_in words.now.entries) apply.now (state_of p before)) }
+) -> Result<Found, Memory>
+    requires world { IsWorld world.now }
+    requires known { IsKnown world.now known.old }
+    ensures { IfOk result (λ f. IsFound world.now known.old known.new levels (λ n s. called_in world.now n (word_in words.now.entries) apply.now s) f) }
 {
+    let key = key_of(alloc, words, apply)?;
+    if let Some(found) = found_before(known, &key, levels) {
+        return Ok(found);
+    }
     let name = apply.policy.as_slice();
     let parameters = parameters_of(world, name);
     let inner = handed(alloc, words, parameters, apply.arguments.as_slice())?;
-    run_policy(alloc, world, levels, name, &inner, before)
-}
-
-// The route of these attributes, accepted.
-fn accepted(alloc: Global, route: &Route, draft: Draft) -> Result<Outcome, Memory>
-    ensures { IfOk result (λ o. o ≡ Outcome.Accept (route_of route.now.prefix draft)) }
-{
-    let changed = draft.finished(alloc, route.prefix())?;
-    Ok(Outcome::Accept(changed))
-}
-
-// The outcome of a run that comes to the end of its policy: the ticket decides.
-fn at_end(alloc: Global, route: &Route, run: Run) -> Result<Outcome, Memory>
-    ensures { IfOk result (λ o. o ≡ at_end (Fate.Goes (state_of route.now.prefix run))) }
-{
-    if run.ticket {
-        return accepted(alloc, route, run.draft);
-    }
-    Ok(Outcome::Reject)
-}
-
-// The outcome of how a policy ended.
-fn outcome_of(alloc: Global, route: &Route, ending: Ending) -> Result<Outcome, Memory>
-    ensures { IfOk result (λ o. o ≡ at_end (fate_of route.now.prefix ending)) }
-{
-    match ending {
-        Ending::GoesOn(run) => at_end(alloc, route, run),
-        Ending::Accepted(draft) => accepted(alloc, route, draft),
-        Ending::Rejected => Ok(Outcome::Reject),
-    }
+    let found = run_policy(alloc, world, known, levels, name, &inner)?;
+    known.kept.put(key, found)?;
+    Ok(found)
 }
 
 // What the policy of this name makes of a route, by the items of a text.
@@ -207,19 +299,19 @@ pub(crate) fn judge_items<'a>(
     ensures { IfOk result (λ o. o ≡ rpl_meaning (forms items.now) name.now route.now) }
 {
     let world = world_of(alloc, items, route)?;
-    let draft = Draft::of_route(alloc, route)?;
-    let start = Run {
-        ticket: false,
-        draft,
+    let mut known = Known {
+        kept: Kept::new(alloc),
+        effects: Vec::new(alloc),
     };
     let words = NameMap::new(alloc);
-    let ending = run_policy(alloc, &world, 129, name, &words, start)?;
-    outcome_of(alloc, route, ending)
+    let found = run_policy(alloc, &world, &mut known, 129, name, &words)?;
+    outcome_of(alloc, known.effects.as_slice(), found.place, route)
 }
 
 /// What the policy makes of a route: `Reject`, or `Accept` with the changed route (Cisco IOS XR Routing
 /// Configuration Guide, 'Implementing Routing Policy'). It is the meaning of the policy that stands under its name
-/// in its tree. The one error is want of memory.
+/// in its tree. What an applied policy does is found once for each policy and the words that are handed to it. The one
+/// error is want of memory.
 pub fn judge_rpl(alloc: Global, policy: &CheckedRpl, route: &Route) -> Result<Outcome, Memory>
     ensures { IfOk result (λ o. o ≡ rpl_meaning (forms policy.now.items) (name_of policy.now) route.now) }
 {

@@ -7,12 +7,13 @@ ghost use Rattle.rpl_meaning.specs.Sets.{Bindings};
 ghost use Rattle.rpl_meaning.specs.declared.tests.World.{World as SpecWorld};
 ghost use Rattle.rpl_meaning.specs.Steps.{Does, branch_by, word_of_form, statement_in, else_if_in, over_behind, end_behind, branch_behind, run_behind, passed};
 
-use crate::actions::acted;
+use crate::actions::{RplChanges, acted};
+use crate::communities::CommunityStep;
 use crate::conditions::condition_holds;
 use crate::tests::World;
 use crate::words::Words;
-use route_drafts::Draft;
 use route_types::Memory;
+use rpl_effects::{Effect, Run};
 use rpl_forms::{Action, Apply, IfWord, PolicyStatement, RplForm, Term};
 use std::alloc::Global;
 
@@ -27,53 +28,43 @@ pub(crate) enum Mode {
     Leaving(u64),
 }
 
-/// Whether the ticket is held, and the route changed so far.
-#[derive(Drop)]
-pub(crate) struct Run {
-    pub(crate) ticket: bool,
-    pub(crate) draft: Draft,
-}
+/// What a run has done so far.
+pub(crate) type RplRun<'a> = Run<CommunityStep<'a>>;
 
-/// How the statements of a policy end.
-#[derive(Drop)]
-pub(crate) enum Ending {
-    /// What stands behind them runs.
-    GoesOn(Run),
-    Accepted(Draft),
-    Rejected,
-}
+/// What the statements of a policy do, and how they end.
+pub(crate) type RplEffect<'a> = Effect<CommunityStep<'a>>;
 
 /// Where the walk stands behind a statement.
 #[derive(Drop)]
-pub(crate) struct Place {
+pub(crate) struct Place<'a> {
     pub(crate) mode: Mode,
-    pub(crate) run: Run,
+    pub(crate) run: RplRun<'a>,
 }
 
 /// What a statement does.
 #[derive(Drop)]
 pub(crate) enum Step<'a> {
-    On(Place),
+    On(Place<'a>),
     /// It applies a policy.
-    Calls(&'a Apply, Run),
-    Ended(Ending),
+    Calls(&'a Apply, RplRun<'a>),
+    Ended(RplEffect<'a>),
 }
 
-fn on<'a>(mode: Mode, run: Run) -> Step<'a>
-    ensures { result ≡ Step.On (record { mode = mode; run = run }) }
+fn on<'a>(mode: Mode, run: RplRun<'a>) -> Step<'a>
+    ensures { result ≡ Step.On (record { mode = mode; run = run.entry }) }
 {
     Step::On(Place { mode, run })
 }
 
 // The walk goes on with the ticket, and with these attributes.
-fn with_ticket<'a>(draft: Draft) -> Step<'a>
-    ensures { result ≡ Step.On (record { mode = Mode.Running; run = record { ticket = true; draft = draft } }) }
+fn with_ticket<'a>(changes: RplChanges<'a>) -> Step<'a>
+    ensures { result ≡ Step.On (record { mode = Mode.Running; run = record { ticket = true; changes = changes.entry } }) }
 {
     on(
         Mode::Running,
         Run {
             ticket: true,
-            draft,
+            changes,
         },
     )
 }
@@ -88,8 +79,8 @@ fn branch_by(holds: bool) -> Mode
 }
 
 // The walk goes on by the answer of a condition.
-fn behind_condition<'a>(holds: bool, run: Run) -> Step<'a>
-    ensures { result ≡ Step.On (record { mode = branch_by holds; run = run }) }
+fn behind_condition<'a>(holds: bool, run: RplRun<'a>) -> Step<'a>
+    ensures { result ≡ Step.On (record { mode = branch_by holds; run = run.entry }) }
 {
     on(branch_by(holds), run)
 }
@@ -99,32 +90,31 @@ fn at_if<'a>(
     world: &World<'a>,
     words: &Words<'a>,
     terms: &'a [Term],
-    run: Run,
+    run: RplRun<'a>,
 ) -> Result<Step<'a>, Memory>
     requires { IsWorld world.now }
-    ensures { IfOk result (λ x. Does world.now (word_in words.now.entries) Mode.Running (SpecForm.Statement (SpecStatement.If terms.now)) run x) }
+    ensures { IfOk result (λ x. Does world.now (word_in words.now.entries) Mode.Running (SpecForm.Statement (SpecStatement.If terms.now)) run.entry x) }
 {
     let holds = condition_holds(alloc, world, words, terms)?;
     Ok(behind_condition(holds, run))
 }
 
 fn at_action<'a>(
-    alloc: Global,
     world: &World<'a>,
     words: &Words<'a>,
     action: &'a Action,
-    run: Run,
+    run: RplRun<'a>,
 ) -> Result<Step<'a>, Memory>
     requires { IsWorld world.now }
-    ensures { IfOk result (λ x. Does world.now (word_in words.now.entries) Mode.Running (SpecForm.Statement (SpecStatement.Act action.now)) run x) }
+    ensures { IfOk result (λ x. Does world.now (word_in words.now.entries) Mode.Running (SpecForm.Statement (SpecStatement.Act action.now)) run.entry x) }
 {
-    let draft = acted(alloc, world, words, action, run.draft)?;
-    Ok(with_ticket(draft))
+    let changes = acted(world, words, action, run.changes)?;
+    Ok(with_ticket(changes))
 }
 
 // A statement that applies a policy.
-fn calls<'a>(apply: &'a Apply, run: Run) -> Step<'a>
-    ensures { (w : SpecWorld) (bs : Bindings) → Does w bs Mode.Running (SpecForm.Statement (SpecStatement.Apply apply.now)) run result }
+fn calls<'a>(apply: &'a Apply, run: RplRun<'a>) -> Step<'a>
+    ensures { (w : SpecWorld) (bs : Bindings) → Does w bs Mode.Running (SpecForm.Statement (SpecStatement.Apply apply.now)) run.entry result }
 {
     Step::Calls(apply, run)
 }
@@ -135,20 +125,20 @@ fn in_branch<'a>(
     world: &World<'a>,
     words: &Words<'a>,
     statement: &'a PolicyStatement,
-    run: Run,
+    run: RplRun<'a>,
 ) -> Result<Step<'a>, Memory>
     requires { IsWorld world.now }
-    ensures { IfOk result (λ x. Does world.now (word_in words.now.entries) Mode.Running (SpecForm.Statement statement.now) run x) }
+    ensures { IfOk result (λ x. Does world.now (word_in words.now.entries) Mode.Running (SpecForm.Statement statement.now) run.entry x) }
 {
     match statement {
         PolicyStatement::If(terms) => at_if(alloc, world, words, terms.as_slice(), run),
         PolicyStatement::ElseIf(_) => Ok(on(Mode::Leaving(0), run)),
         PolicyStatement::Else => Ok(on(Mode::Leaving(0), run)),
         PolicyStatement::EndIf => Ok(on(Mode::Running, run)),
-        PolicyStatement::Pass => Ok(with_ticket(run.draft)),
-        PolicyStatement::Done => Ok(Step::Ended(Ending::Accepted(run.draft))),
-        PolicyStatement::Drop => Ok(Step::Ended(Ending::Rejected)),
-        PolicyStatement::Act(action) => at_action(alloc, world, words, action, run),
+        PolicyStatement::Pass => Ok(with_ticket(run.changes)),
+        PolicyStatement::Done => Ok(Step::Ended(Effect::Accepted(run.changes))),
+        PolicyStatement::Drop => Ok(Step::Ended(Effect::Rejected)),
+        PolicyStatement::Act(action) => at_action(world, words, action, run),
         PolicyStatement::Apply(apply) => Ok(calls(apply, run)),
     }
 }
@@ -158,10 +148,10 @@ fn at_else_if<'a>(
     world: &World<'a>,
     words: &Words<'a>,
     terms: &'a [Term],
-    run: Run,
+    run: RplRun<'a>,
 ) -> Result<Step<'a>, Memory>
     requires { IsWorld world.now }
-    ensures { IfOk result (λ x. Does world.now (word_in words.now.entries) (Mode.Seeking 0) (SpecForm.Statement (SpecStatement.ElseIf terms.now)) run x) }
+    ensures { IfOk result (λ x. Does world.now (word_in words.now.entries) (Mode.Seeking 0) (SpecForm.Statement (SpecStatement.ElseIf terms.now)) run.entry x) }
 {
     let holds = condition_holds(alloc, world, words, terms)?;
     Ok(behind_condition(holds, run))
@@ -251,13 +241,13 @@ fn else_if_in(form: &RplForm) -> Option<&[Term]>
 }
 
 // What a form does where its branch doesn't run and isn't asked.
-fn passed<'a>(mode: Mode, form: &'a RplForm, run: Run) -> Step<'a>
-    ensures { result ≡ passed mode form.now run }
+fn passed<'a>(mode: Mode, form: &'a RplForm, run: RplRun<'a>) -> Step<'a>
+    ensures { result ≡ passed mode form.now run.entry }
 {
     match form {
         RplForm::Statement(_) => on(mode, run),
         RplForm::Other(_) => on(mode, run),
-        _ => Step::Ended(Ending::GoesOn(run)),
+        _ => Step::Ended(Effect::GoesOn(run)),
     }
 }
 
@@ -267,10 +257,10 @@ fn in_running<'a>(
     world: &World<'a>,
     words: &Words<'a>,
     form: &'a RplForm,
-    run: Run,
+    run: RplRun<'a>,
 ) -> Result<Step<'a>, Memory>
     requires { IsWorld world.now }
-    ensures { IfOk result (λ x. Does world.now (word_in words.now.entries) Mode.Running form.now run x) }
+    ensures { IfOk result (λ x. Does world.now (word_in words.now.entries) Mode.Running form.now run.entry x) }
 {
     match statement_in(form) {
         Some(statement) => in_branch(alloc, world, words, statement, run),
@@ -284,10 +274,10 @@ fn in_seeking<'a>(
     world: &World<'a>,
     words: &Words<'a>,
     form: &'a RplForm,
-    run: Run,
+    run: RplRun<'a>,
 ) -> Result<Step<'a>, Memory>
     requires { IsWorld world.now }
-    ensures { IfOk result (λ x. Does world.now (word_in words.now.entries) (Mode.Seeking 0) form.now run x) }
+    ensures { IfOk result (λ x. Does world.now (word_in words.now.entries) (Mode.Seeking 0) form.now run.entry x) }
 {
     match else_if_in(form) {
         Some(terms) => at_else_if(alloc, world, words, terms, run),
@@ -302,10 +292,10 @@ fn seeking<'a>(
     words: &Words<'a>,
     over: u64,
     form: &'a RplForm,
-    run: Run,
+    run: RplRun<'a>,
 ) -> Result<Step<'a>, Memory>
     requires { IsWorld world.now }
-    ensures { IfOk result (λ x. Does world.now (word_in words.now.entries) (Mode.Seeking over) form.now run x) }
+    ensures { IfOk result (λ x. Does world.now (word_in words.now.entries) (Mode.Seeking over) form.now run.entry x) }
 {
     if over == 0 {
         return in_seeking(alloc, world, words, form, run);
@@ -315,8 +305,8 @@ fn seeking<'a>(
 }
 
 // What a form does where the end of an `if` is looked for.
-fn leaving<'a>(over: u64, form: &'a RplForm, run: Run) -> Result<Step<'a>, Memory>
-    ensures { IfOk result (λ x. (w : SpecWorld) (bs : Bindings) → Does w bs (Mode.Leaving over) form.now run x) }
+fn leaving<'a>(over: u64, form: &'a RplForm, run: RplRun<'a>) -> Result<Step<'a>, Memory>
+    ensures { IfOk result (λ x. (w : SpecWorld) (bs : Bindings) → Does w bs (Mode.Leaving over) form.now run.entry x) }
 {
     if over == 0 {
         return Ok(passed(end_behind(word_of(form)), form, run));
@@ -332,10 +322,10 @@ pub(crate) fn taken<'a>(
     words: &Words<'a>,
     mode: Mode,
     form: &'a RplForm,
-    run: Run,
+    run: RplRun<'a>,
 ) -> Result<Step<'a>, Memory>
     requires { IsWorld world.now }
-    ensures { IfOk result (λ x. Does world.now (word_in words.now.entries) mode form.now run x) }
+    ensures { IfOk result (λ x. Does world.now (word_in words.now.entries) mode form.now run.entry x) }
 {
     match mode {
         Mode::Running => in_running(alloc, world, words, form, run),

@@ -21,7 +21,7 @@ pub(crate) fn word_of<'a>(words: &Words<'a>, parameter: &'a [u8]) -> &'a [u8]
 }
 
 // The word that an argument hands on.
-fn word_given<'a>(words: &Words<'a>, argument: &'a Argument) -> &'a [u8]
+pub(crate) fn word_given<'a>(words: &Words<'a>, argument: &'a Argument) -> &'a [u8]
     ensures { result.now ≡ word_given (word_in words.now.entries) argument.now }
 {
     match argument {

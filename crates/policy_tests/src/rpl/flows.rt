@@ -14,6 +14,27 @@ route-policy P
 end-policy
 ";
 
+/// A policy with a parameter, one that hands on its own, and one that applies both with several words.
+const APPLIES_AGAIN: &str = "\
+route-policy SETW($w)
+  set weight $w
+end-policy
+route-policy HANDS($x)
+  apply SETW($x)
+  prepend as-path $x 2
+end-policy
+route-policy P
+  apply SETW(3)
+  apply HANDS(4)
+  apply HANDS(5)
+  apply SETW(4)
+  apply HANDS(4)
+  if med ge 1 then
+    apply SETW(3)
+  endif
+end-policy
+";
+
 /// Two policies that test a set without elements.
 const EMPTY_SET: &str = "\
 community-set NONE
@@ -69,6 +90,21 @@ end-policy
             (
                 &["route 0.0.0.0/0", "med 7"],
                 Accept(&["local-preference 300"]),
+            ),
+        ],
+    ),
+    // Each `apply` hands on its own words, also where the policy was applied before.
+    (
+        "P",
+        APPLIES_AGAIN,
+        &[
+            (
+                &["as-path 7"],
+                Accept(&["weight 4", "as-path 4 4 5 5 4 4 7"]),
+            ),
+            (
+                &["as-path 7", "med 1"],
+                Accept(&["weight 3", "as-path 4 4 5 5 4 4 7"]),
             ),
         ],
     ),

@@ -19,4 +19,4 @@ abbrev pub decreases-run_body-loop-rest : goal.decreases-run_body-loop-rest
 decreases-run_body-loop-rest l = length l.rest
 
 abbrev pub invariant-run_body-loop-rest : goal.invariant-run_body-loop-rest
-invariant-run_body-loop-rest l = IsAlong l.world l.levels (word_in l.words.entries) l.body l.rest l.fn.start l.run l.mode
+invariant-run_body-loop-rest l = IsAlong l.world l.fn.known l.known l.levels (word_in l.words.entries) l.body l.rest l.run l.mode l.held

@@ -3,4 +3,4 @@ use Rattle.rpl_meaning.proofs.StepLaws.{action_does}
 use Rattle.rpl_meaning.proofs.walk.at_action.Goals as goal
 
 pub returns : goal.returns
-returns c = action_does c.args.world.now (word_in c.args.words.now.entries) c.args.action.now c.args.run c.in_ok-draft.draft c.with_ticket.result c.in_ok-draft.ensures c.with_ticket.ensures
+returns c = action_does c.args.world.now (word_in c.args.words.now.entries) c.args.action.now c.args.run c.in_ok-changes.changes c.with_ticket.result c.in_ok-changes.ensures c.with_ticket.ensures

@@ -4,7 +4,7 @@ use Rattle.rpl_forms.specs.declared.item.PolicyStatement.{PolicyStatement}
 use Rattle.rpl_forms.specs.declared.item.PolicyStatement.TheVariants.{If}
 use Rattle.rpl_forms.specs.declared.item.RplForm.{RplForm}
 use Rattle.rpl_forms.specs.declared.item.RplForm.TheVariants.{Statement}
-use Rattle.rpl_meaning.specs.declared.walk.Ending.TheVariants.{Accepted, Rejected}
+use Rattle.rpl_effects.specs.declared.effect.Effect.TheVariants.{Accepted, Rejected}
 use Rattle.rpl_meaning.specs.declared.walk.Mode.TheVariants.{Running}
 use Rattle.rpl_meaning.specs.declared.walk.Step.TheVariants.{Ended}
 use Rattle.rpl_meaning.specs.Steps.{Does}
@@ -28,7 +28,7 @@ pub returns-in-Pass : goal.returns-in-Pass
 returns-in-Pass c = alike c.args.world.now (word_in c.args.words.now.entries) Running (Statement c.args.statement.now) _ c.args.run c.with_ticket.result _ (ap (λ (s : PolicyStatement). Statement s) c.in-Pass.is) c.with_ticket.ensures (pass_goes c.args.world.now (word_in c.args.words.now.entries) c.args.run)
 
 pub returns-in-Done : goal.returns-in-Done
-returns-in-Done c = alike c.args.world.now (word_in c.args.words.now.entries) Running (Statement c.args.statement.now) _ c.args.run (Ended (Accepted c.args.run.draft)) _ (ap (λ (s : PolicyStatement). Statement s) c.in-Done.is) refl (done_ends c.args.world.now (word_in c.args.words.now.entries) c.args.run)
+returns-in-Done c = alike c.args.world.now (word_in c.args.words.now.entries) Running (Statement c.args.statement.now) _ c.args.run (Ended (Accepted c.args.run.changes)) _ (ap (λ (s : PolicyStatement). Statement s) c.in-Done.is) refl (done_ends c.args.world.now (word_in c.args.words.now.entries) c.args.run)
 
 pub returns-in-Drop : goal.returns-in-Drop
 returns-in-Drop c = alike c.args.world.now (word_in c.args.words.now.entries) Running (Statement c.args.statement.now) _ c.args.run (Ended Rejected) _ (ap (λ (s : PolicyStatement). Statement s) c.in-Drop.is) refl (drop_ends c.args.world.now (word_in c.args.words.now.entries) c.args.run)
@@ -36,5 +36,5 @@ returns-in-Drop c = alike c.args.world.now (word_in c.args.words.now.entries) Ru
 pub returns-in-Act : goal.returns-in-Act
 returns-in-Act c = subst (λ (f : RplForm). IfOk c.at_action.result (λ x. Does c.args.world.now (word_in c.args.words.now.entries) Running f c.args.run x)) (ap (λ (s : PolicyStatement). Statement s) (sym c.in-Act.is)) c.at_action.ensures
 
-pub returns-in-Apply : goal.returns-in-Apply
-returns-in-Apply c = subst (λ (f : RplForm). Does c.args.world.now (word_in c.args.words.now.entries) Running f c.args.run c.calls.result) (ap (λ (s : PolicyStatement). Statement s) (sym c.in-Apply.is)) (c.calls.ensures c.args.world.now (word_in c.args.words.now.entries))
+pub returns : goal.returns
+returns c = subst (λ (f : RplForm). Does c.args.world.now (word_in c.args.words.now.entries) Running f c.args.run c.calls.result) (ap (λ (s : PolicyStatement). Statement s) (sym c.in-Apply.is)) (c.calls.ensures c.args.world.now (word_in c.args.words.now.entries))

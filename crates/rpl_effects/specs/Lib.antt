@@ -1,0 +1,4 @@
+pub mod Pieces
+pub mod Changes
+pub mod Answers
+pub mod Kept
