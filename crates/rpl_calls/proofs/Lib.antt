@@ -1,3 +1,6 @@
 pub mod Placed
 pub mod Saying
-pub mod Callees
+pub mod Tables
+pub mod Listing
+pub mod Linked
+pub mod Found

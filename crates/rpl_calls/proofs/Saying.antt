@@ -10,7 +10,8 @@ use Rattle.rpl_calls.specs.Policies.{Spoken, spoken_from, opens, policy_line, na
 use Rattle.rpl_calls.specs.Open.{IsOpen}
 use Rattle.rpl_calls.specs.Asks.{own_asks, asks_of, form_asks, OwnAsk}
 use Rattle.rpl_calls.specs.Calls.{CallParts, call_of, call_in, calls_of}
-use Rattle.rpl_calls.specs.Said.{calls_in, asks_in, IsSaying}
+use Rattle.rpl_calls.specs.Settings.{Setting, setting_in, setting_of, settings_of}
+use Rattle.rpl_calls.specs.Said.{calls_in, asks_in, settings_in, IsSaying}
 use Rattle.rpl_calls.specs.declared.policies.Open.{Open}
 use Rattle.rpl_calls.specs.declared.said.Said.{Said}
 
@@ -32,35 +33,45 @@ module _ (all rest : List RplItem) (i : RplItem) where
     is_open = is;
     calls = ap (λ (ss : List Spoken). calls_in said.calls ++ flat_map call_of ss) (sym (spoken saying.line (Some kind) e)) ∙ saying.calls;
     asks = ap (λ (ss : List Spoken). asks_in said.asks ++ flat_map own_asks ss) (sym (spoken saying.line (Some kind) e)) ∙ saying.asks;
+    settings = ap (λ (ss : List Spoken). settings_in said.settings ++ flat_map setting_of ss) (sym (spoken saying.line (Some kind) e)) ∙ saying.settings;
   }
 
-  passed_at : (said : Said) (line : Option RplForm) → IsOpen line None → opens i.form ≡ None → calls_in said.calls ++ flat_map call_of (spoken_from line (i ∷ rest)) ≡ calls_of all → asks_in said.asks ++ flat_map own_asks (spoken_from line (i ∷ rest)) ≡ asks_of all → IsSaying all said None rest
-  passed_at said None is e calls asks = record {
+  passed_at : (said : Said) (line : Option RplForm) → IsOpen line None → opens i.form ≡ None → calls_in said.calls ++ flat_map call_of (spoken_from line (i ∷ rest)) ≡ calls_of all → asks_in said.asks ++ flat_map own_asks (spoken_from line (i ∷ rest)) ≡ asks_of all
+      → settings_in said.settings ++ flat_map setting_of (spoken_from line (i ∷ rest)) ≡ settings_of all → IsSaying all said None rest
+  passed_at said None is e calls asks settings = record {
     line = None;
     is_open = tt;
     calls = ap (λ (ss : List Spoken). calls_in said.calls ++ flat_map call_of ss) (sym (spoken None None e)) ∙ calls;
     asks = ap (λ (ss : List Spoken). asks_in said.asks ++ flat_map own_asks ss) (sym (spoken None None e)) ∙ asks;
+    settings = ap (λ (ss : List Spoken). settings_in said.settings ++ flat_map setting_of ss) (sym (spoken None None e)) ∙ settings;
   }
-  passed_at said (Some line) is e calls asks = absurd is
+  passed_at said (Some line) is e calls asks settings = absurd is
 
   pub passed : (said : Said) (policy : Option Open) → opens i.form ≡ None → policy ≡ None → IsSaying all said policy (i ∷ rest) → IsSaying all said None rest
-  passed said policy e none saying = passed_at said saying.line (subst (λ (o : Option Open). IsOpen saying.line o) none saying.is_open) e saying.calls saying.asks
+  passed said policy e none saying = passed_at said saying.line (subst (λ (o : Option Open). IsOpen saying.line o) none saying.is_open) e saying.calls saying.asks saying.settings
 
-  -- what the statement calls and asks, by what is kept of the policy
+  -- what the statement calls, asks and sets, by what is kept of the policy
   abbrev pub calls_kept : Open → List CallParts
   calls_kept o = call_in (name_under o.line.now) (under o.places.entries) i.span i.form
 
   abbrev pub asks_kept : Open → List OwnAsk
-  asks_kept o = flat_map (λ ask. record { policy = name_under o.line.now; ask = ask } ∷ []) (form_asks (under o.places.entries) i.span.start i.span.end i.form)
+  asks_kept o = flat_map (λ ask. record { policy = name_under o.line.now; ask = ask } ∷ []) (form_asks (under o.places.entries) i.form)
+
+  abbrev pub settings_kept : Open → List Setting
+  settings_kept o = setting_in (name_under o.line.now) (under o.places.entries) i.span i.form
 
   more_at : (old new : Said) (line : Option RplForm) (o : Open) → IsOpen line (Some o) → opens i.form ≡ None → calls_in new.calls ≡ calls_in old.calls ++ calls_kept o → asks_in new.asks ≡ asks_in old.asks ++ asks_kept o
-      → calls_in old.calls ++ flat_map call_of (spoken_from line (i ∷ rest)) ≡ calls_of all → asks_in old.asks ++ flat_map own_asks (spoken_from line (i ∷ rest)) ≡ asks_of all → IsSaying all new (Some o) rest
-  more_at old new None o is e calls asks all_calls all_asks = absurd is
-  more_at old new (Some line) o is e calls asks all_calls all_asks =
+      → settings_in new.settings ≡ settings_in old.settings ++ settings_kept o
+      → calls_in old.calls ++ flat_map call_of (spoken_from line (i ∷ rest)) ≡ calls_of all → asks_in old.asks ++ flat_map own_asks (spoken_from line (i ∷ rest)) ≡ asks_of all
+      → settings_in old.settings ++ flat_map setting_of (spoken_from line (i ∷ rest)) ≡ settings_of all → IsSaying all new (Some o) rest
+  more_at old new None o is e calls asks settings all_calls all_asks all_settings = absurd is
+  more_at old new (Some line) o is e calls asks settings all_calls all_asks all_settings =
       let call : calls_kept o ≡ call_of (record { line = line; item = i }) = λ j. call_in (name_under (is.line_is j)) (λ x. is.places x j) i.span i.form in
-      let ask : asks_kept o ≡ own_asks (record { line = line; item = i }) = λ j. flat_map (λ ask. record { policy = name_under (is.line_is j); ask = ask } ∷ []) (form_asks (λ x. is.places x j) i.span.start i.span.end i.form) in
+      let ask : asks_kept o ≡ own_asks (record { line = line; item = i }) = λ j. flat_map (λ ask. record { policy = name_under (is.line_is j); ask = ask } ∷ []) (form_asks (λ x. is.places x j) i.form) in
+      let setting : settings_kept o ≡ setting_of (record { line = line; item = i }) = λ j. setting_in (name_under (is.line_is j)) (λ x. is.places x j) i.span i.form in
       let front_calls : List CallParts = flat_map call_of (spoken_from (Some line) rest) in
       let front_asks : List OwnAsk = flat_map own_asks (spoken_from (Some line) rest) in
+      let front_settings : List Setting = flat_map setting_of (spoken_from (Some line) rest) in
       record {
         line = Some line;
         is_open = is;
@@ -70,21 +81,25 @@ module _ (all rest : List RplItem) (i : RplItem) where
         asks = ap (λ (xs : List OwnAsk). xs ++ front_asks) (asks ∙ ap (λ (xs : List OwnAsk). asks_in old.asks ++ xs) ask)
             ∙ append_assoc (asks_in old.asks) (own_asks (record { line = line; item = i })) front_asks
             ∙ ap (λ (ss : List Spoken). asks_in old.asks ++ flat_map own_asks ss) (sym (spoken (Some line) None e)) ∙ all_asks;
+        settings = ap (λ (xs : List Setting). xs ++ front_settings) (settings ∙ ap (λ (xs : List Setting). settings_in old.settings ++ xs) setting)
+            ∙ append_assoc (settings_in old.settings) (setting_of (record { line = line; item = i })) front_settings
+            ∙ ap (λ (ss : List Spoken). settings_in old.settings ++ flat_map setting_of ss) (sym (spoken (Some line) None e)) ∙ all_settings;
       }
 
   pub more : (old new : Said) (policy : Option Open) (o : Open) → opens i.form ≡ None → policy ≡ Some o → calls_in new.calls ≡ calls_in old.calls ++ calls_kept o → asks_in new.asks ≡ asks_in old.asks ++ asks_kept o
-      → IsSaying all old policy (i ∷ rest) → IsSaying all new (Some o) rest
-  more old new policy o e some calls asks saying =
-      more_at old new saying.line o (subst (λ (p : Option Open). IsOpen saying.line p) some saying.is_open) e calls asks saying.calls saying.asks
+      → settings_in new.settings ≡ settings_in old.settings ++ settings_kept o → IsSaying all old policy (i ∷ rest) → IsSaying all new (Some o) rest
+  more old new policy o e some calls asks settings saying =
+      more_at old new saying.line o (subst (λ (p : Option Open). IsOpen saying.line p) some saying.is_open) e calls asks settings saying.calls saying.asks saying.settings
 
 -- ---- the loop
 
-pub begins : (all : List RplItem) (said : Said) → said.calls ≡ [] → said.asks ≡ [] → IsSaying all said None all
-begins all said calls asks = record {
+pub begins : (all : List RplItem) (said : Said) → said.calls ≡ [] → said.asks ≡ [] → said.settings ≡ [] → IsSaying all said None all
+begins all said calls asks settings = record {
   line = None;
   is_open = tt;
   calls = ap (λ xs. calls_in xs ++ calls_of all) calls;
   asks = ap (λ xs. asks_in xs ++ asks_of all) asks;
+  settings = ap (λ xs. settings_in xs ++ settings_of all) settings;
 }
 
 pub goes : (all rest : List RplItem) (first : RplItem) (m : ℕ) (old new : Said) (policy behind : Option Open) → 1 ≤ length rest → first ≡ get_or rest 0 first → m ≡ length rest - 1
@@ -105,3 +120,6 @@ module _ (all rest : List RplItem) (said : Said) (policy : Option Open) (saying 
 
   pub all_asks : asks_in said.asks ≡ asks_of all
   all_asks = sym (append-nil (asks_in said.asks)) ∙ ap (λ (xs : List OwnAsk). asks_in said.asks ++ xs) (sym (none own_asks saying.line rest short)) ∙ saying.asks
+
+  pub all_settings : settings_in said.settings ≡ settings_of all
+  all_settings = sym (append-nil (settings_in said.settings)) ∙ ap (λ (xs : List Setting). settings_in said.settings ++ xs) (sym (none setting_of saying.line rest short)) ∙ saying.settings

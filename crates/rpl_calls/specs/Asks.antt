@@ -27,43 +27,35 @@ use Rattle.rpl_calls.specs.declared.ask.SetSort.{SetSort}
 use Rattle.rpl_calls.specs.declared.ask.SetSort.TheVariants.{Prefix, Community}
 use Rattle.rpl_calls.specs.declared.ask.SetSort.TheVariants.{Path as PathSort}
 use Rattle.rpl_calls.specs.declared.ask.Ask.{Ask}
-use Rattle.rpl_calls.specs.declared.ask.Ask.TheVariants.{Number, Set, Plain, Rising}
-use Rattle.rpl_calls.specs.declared.ask.Bound.{Bound}
-use Rattle.rpl_calls.specs.declared.ask.Bound.TheVariants.{Fixed, Own}
+use Rattle.rpl_calls.specs.declared.ask.Question.{Question}
+use Rattle.rpl_calls.specs.declared.ask.Question.TheVariants.{Number, Set, NotBelow}
 
 -- what is asked of a parameter, where it is one of the policy
-abbrev pub of_parameter : (List ℕ → Option ℕ) → List ℕ → (ℕ → Ask) → List Ask
-of_parameter places x make = elim (places x) [ None ↦ [] | Some n ↦ make n ∷ [] ]
+abbrev pub of_parameter : (List ℕ → Option ℕ) → List ℕ → Question → List Ask
+of_parameter places x question = elim (places x) [ None ↦ [] | Some n ↦ record { place = n; question = question } ∷ [] ]
 
 -- a number in a range
 abbrev pub number_asks : {N : Type 0} → (List ℕ → Option ℕ) → ℕ → ℕ → RplNumber N → List Ask
 number_asks places least most (FixedNumber n) = []
-number_asks places least most (GivenNumber x) = of_parameter places x (λ n. Number (record { place = n; least = least; most = most }))
+number_asks places least most (GivenNumber x) = of_parameter places x (Number (record { least = least; most = most }))
 
 -- a number up to the greatest of 32 bits
 abbrev pub wide_asks : (List ℕ → Option ℕ) → RplNumber ℕ → List Ask
 wide_asks places n = number_asks places 0 4294967295 n
 
--- a bound, where a parameter that it is is one of the policy
-abbrev pub bound_of : (List ℕ → Option ℕ) → RplNumber ℕ → Option Bound
-bound_of places (FixedNumber n) = Some (Fixed n)
-bound_of places (GivenNumber x) = elim (places x) [ None ↦ None | Some n ↦ Some (Own n) ]
+-- of two parameters the second isn't below the first
+abbrev pub rising_asks : (List ℕ → Option ℕ) → List ℕ → List ℕ → List Ask
+rising_asks places low high = elim (places low) [ None ↦ [] | Some m ↦ of_parameter places high (NotBelow m) ]
 
--- two bounds that rise, of which one at least isn't known
-abbrev pub rising_or : ℕ → Bound → Bound → List Ask
-rising_or least (Fixed m) (Fixed n) = []
-rising_or least low high = Rising (record { least = least; low = low; high = high }) ∷ []
-
-abbrev pub rising_asks : (List ℕ → Option ℕ) → ℕ → RplNumber ℕ → RplNumber ℕ → List Ask
-rising_asks places least low high = elim (bound_of places low) [
-  | None ↦ []
-  | Some l ↦ elim (bound_of places high) [ None ↦ [] | Some h ↦ rising_or least l h ]
-]
+-- the second of two bounds isn't below the first
+abbrev pub bounds_asks : (List ℕ → Option ℕ) → RplNumber ℕ → RplNumber ℕ → List Ask
+bounds_asks places (FixedNumber m) high = number_asks places m 32 high
+bounds_asks places (GivenNumber x) (FixedNumber n) = of_parameter places x (Number (record { least = 0; most = n }))
+bounds_asks places (GivenNumber x) (GivenNumber y) = rising_asks places x y
 
 -- the bounds of a prefix element
 abbrev pub prefix_asks : (List ℕ → Option ℕ) → PrefixElement → List Ask
-prefix_asks places e =
-    number_asks places e.prefix.length 32 e.least ++ number_asks places e.prefix.length 32 e.most ++ rising_asks places e.prefix.length e.least e.most
+prefix_asks places e = number_asks places e.prefix.length 32 e.least ++ number_asks places e.prefix.length 32 e.most ++ bounds_asks places e.least e.most
 
 abbrev pub path_test_asks : (List ℕ → Option ℕ) → PathTest → List Ask
 path_test_asks places (Length t) = number_asks places 0 2047 t.length
@@ -78,13 +70,13 @@ path_asks places (PathTestElement t) = path_test_asks places t
 -- a set: the name of one of its sort, or what its elements ask
 abbrev pub set_asks : {E : Type 0} → (List ℕ → Option ℕ) → SetSort → (E → List Ask) → RplSet E → List Ask
 set_asks places sort each (Named n) = []
-set_asks places sort each (GivenSet x) = of_parameter places x (λ n. Set (record { place = n; sort = sort }))
+set_asks places sort each (GivenSet x) = of_parameter places x (Set sort)
 set_asks places sort each (Listed es) = flat_map each es
 
 -- community elements ask nothing
 abbrev pub community_asks : (List ℕ → Option ℕ) → RplSet RectParts → List Ask
 community_asks places (Named n) = []
-community_asks places (GivenSet x) = of_parameter places x (λ n. Set (record { place = n; sort = Community }))
+community_asks places (GivenSet x) = of_parameter places x (Set Community)
 community_asks places (Listed rs) = []
 
 abbrev pub test_asks : (List ℕ → Option ℕ) → RplTest → List Ask
@@ -101,30 +93,25 @@ abbrev pub term_asks : (List ℕ → Option ℕ) → Term → List Ask
 term_asks places (Test t) = test_asks places t
 term_asks places _ = []
 
--- the communities that a statement sets are single ones
-abbrev pub plain_asks : (List ℕ → Option ℕ) → ℕ → ℕ → RplSet RectParts → List Ask
-plain_asks places start end (GivenSet x) = of_parameter places x (λ n. Plain (record { place = n; start = start; end = end }))
-plain_asks places start end _ = []
+abbrev pub action_asks : (List ℕ → Option ℕ) → Action → List Ask
+action_asks places (SetMed n) = wide_asks places n
+action_asks places (SetLocalPreference n) = wide_asks places n
+action_asks places (SetWeight n) = number_asks places 0 65535 n
+action_asks places (SetCommunity s) = community_asks places s.set
+action_asks places (DeleteCommunity set) = community_asks places set
+action_asks places (Prepend p) = wide_asks places p.number ++ number_asks places 1 63 p.count
+action_asks places _ = []
 
-abbrev pub action_asks : (List ℕ → Option ℕ) → ℕ → ℕ → Action → List Ask
-action_asks places start end (SetMed n) = wide_asks places n
-action_asks places start end (SetLocalPreference n) = wide_asks places n
-action_asks places start end (SetWeight n) = number_asks places 0 65535 n
-action_asks places start end (SetCommunity s) = community_asks places s.set ++ plain_asks places start end s.set
-action_asks places start end (DeleteCommunity set) = community_asks places set
-action_asks places start end (Prepend p) = wide_asks places p.number ++ number_asks places 1 63 p.count
-action_asks places start end _ = []
+abbrev pub statement_asks : (List ℕ → Option ℕ) → PolicyStatement → List Ask
+statement_asks places (If terms) = flat_map (term_asks places) terms
+statement_asks places (ElseIf terms) = flat_map (term_asks places) terms
+statement_asks places (Act a) = action_asks places a
+statement_asks places _ = []
 
-abbrev pub statement_asks : (List ℕ → Option ℕ) → ℕ → ℕ → PolicyStatement → List Ask
-statement_asks places start end (If terms) = flat_map (term_asks places) terms
-statement_asks places start end (ElseIf terms) = flat_map (term_asks places) terms
-statement_asks places start end (Act a) = action_asks places start end a
-statement_asks places start end _ = []
-
--- what a form asks that stands from one byte up to another
-unfoldable pub form_asks : (List ℕ → Option ℕ) → ℕ → ℕ → RplForm → List Ask
-form_asks places start end (Statement s) = statement_asks places start end s
-form_asks places start end _ = []
+-- what a form asks
+unfoldable pub form_asks : (List ℕ → Option ℕ) → RplForm → List Ask
+form_asks places (Statement s) = statement_asks places s
+form_asks places _ = []
 
 -- what the policies of this name ask
 pub record OwnAsk : Type 0 where
@@ -132,7 +119,7 @@ pub record OwnAsk : Type 0 where
   pub ask : Ask
 
 abbrev pub own_asks : Spoken → List OwnAsk
-own_asks s = flat_map (λ ask. record { policy = name_under s.line; ask = ask } ∷ []) (form_asks (place_of (parameters_in s.line)) s.item.span.start s.item.span.end s.item.form)
+own_asks s = flat_map (λ ask. record { policy = name_under s.line; ask = ask } ∷ []) (form_asks (place_of (parameters_in s.line)) s.item.form)
 
 -- what the policies of a text ask of what is handed to them
 abbrev pub asks_of : List RplItem → List OwnAsk

@@ -9,7 +9,6 @@ use Rattle.rpl_forms.specs.declared.item.PolicyStatement.TheVariants.{Apply as A
 use Rattle.rpl_forms.specs.declared.item.RplForm.{RplForm}
 use Rattle.rpl_forms.specs.declared.item.RplForm.TheVariants.{Statement}
 use Rattle.rpl_forms.specs.declared.item.RplItem.{RplItem}
-use Rattle.step_search.specs.Tables.{places_in}
 use Rattle.policy_calls.specs.Calls.{Link}
 use Rattle.rpl_calls.specs.Policies.{Spoken, spoken_from, name_under, parameters_in, place_of}
 
@@ -38,16 +37,6 @@ call_of s = call_in (name_under s.line) (place_of (parameters_in s.line)) s.item
 -- the calls of a text
 abbrev pub calls_of : List RplItem → List CallParts
 calls_of items = flat_map call_of (spoken_from None items)
-
--- ---- calls by name
-
--- the names of what calls apply
-abbrev pub callee_names : List CallParts → List (List ℕ)
-callee_names calls = map (λ c. c.apply.policy) calls
-
--- the calls that apply the policies of this name, by their places among all calls, the last one first
-abbrev pub calls_to : List CallParts → List ℕ → List ℕ
-calls_to calls q = places_in (callee_names calls) q
 
 -- which policy calls which
 abbrev pub links : List CallParts → List Link

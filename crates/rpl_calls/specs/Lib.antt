@@ -1,7 +1,15 @@
 pub mod Policies
 pub mod Asks
+pub mod Settings
 pub mod Calls
+pub mod Parameters
+pub mod Arguments
 pub mod Demands
+pub mod Givens
 pub mod Open
 pub mod Said
+pub mod Table
+pub mod Listed
+pub mod Linked
 pub mod OneDemand
+pub mod OneGiven

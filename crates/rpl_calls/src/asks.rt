@@ -2,19 +2,32 @@
 ghost use Rattle.std.specs.Prelude.{◌≡◌, ◌++◌, OnOk, List, []};
 ghost use Rattle.std.specs.List.{flat_map};
 ghost use Rattle.name_maps.specs.Under.{under};
-ghost use Rattle.rpl_calls.specs.declared.ask.Ask.TheVariants.{Set};
+ghost use Rattle.rpl_calls.specs.declared.ask.Question.TheVariants.{Set};
 ghost use Rattle.rpl_calls.specs.declared.ask.SetSort.TheVariants.{Prefix};
 ghost use Rattle.rpl_calls.specs.declared.ask.SetSort.TheVariants.{Path as PathSort};
-ghost use Rattle.rpl_calls.specs.Asks.{of_parameter, number_asks, wide_asks, bound_of, rising_or, rising_asks, prefix_asks, path_test_asks, path_asks, set_asks, community_asks, test_asks, term_asks, plain_asks, action_asks, statement_asks, form_asks};
+ghost use Rattle.rpl_calls.specs.Asks.{of_parameter, number_asks, wide_asks, rising_asks, bounds_asks, prefix_asks, path_test_asks, path_asks, set_asks, community_asks, test_asks, term_asks, action_asks, form_asks};
 
-use crate::ask::{Ask, Bound, NumberAsk, PlainAsk, RisingAsk, SetAsk, SetSort};
+use crate::ask::{Ask, NumberRange, Question, SetSort};
 use name_maps::NameMap;
 use route_types::{Memory, Rect, Row};
 use rpl_forms::{
     Action, PathElement, PathTest, PolicyStatement, PrefixElement, RplForm, RplNumber, RplSet,
     RplTest, Term,
 };
-use text_words::Span;
+
+fn push_question<'a>(
+    asks: &mut Row<Ask>,
+    places: &NameMap<'a, usize>,
+    name: &'a [u8],
+    question: Question,
+) -> Result<(), Memory>
+    ensures { OnOk result (asks.new ≡ asks.old ++ of_parameter (under places.now.entries) name.now question) }
+{
+    match places.get(name) {
+        None => Ok(()),
+        Some(place) => asks.push(Ask { place, question }),
+    }
+}
 
 fn push_number<'a, N>(
     asks: &mut Row<Ask>,
@@ -25,12 +38,13 @@ fn push_number<'a, N>(
 ) -> Result<(), Memory>
     ensures { OnOk result (asks.new ≡ asks.old ++ number_asks (under places.now.entries) least most number.now) }
 {
-    if let RplNumber::Parameter(name) = number {
-        if let Some(place) = places.get(name.as_slice()) {
-            asks.push(Ask::Number(NumberAsk { place, least, most }))?;
+    match number {
+        RplNumber::Fixed(_) => Ok(()),
+        RplNumber::Parameter(name) => {
+            let question = Question::Number(NumberRange { least, most });
+            push_question(asks, places, name.as_slice(), question)
         }
     }
-    Ok(())
 }
 
 fn push_wide<'a>(
@@ -43,41 +57,35 @@ fn push_wide<'a>(
     push_number(asks, places, 0, 4294967295, number)
 }
 
-fn bound_of<'a>(places: &NameMap<'a, usize>, number: &'a RplNumber<u8>) -> Option<Bound>
-    ensures { result ≡ bound_of (under places.now.entries) number.now }
+fn push_rising<'a>(
+    asks: &mut Row<Ask>,
+    places: &NameMap<'a, usize>,
+    low: &'a [u8],
+    high: &'a [u8],
+) -> Result<(), Memory>
+    ensures { OnOk result (asks.new ≡ asks.old ++ rising_asks (under places.now.entries) low.now high.now) }
 {
-    match number {
-        RplNumber::Fixed(number) => Some(Bound::Fixed(*number as u64)),
-        RplNumber::Parameter(name) => match places.get(name.as_slice()) {
-            None => None,
-            Some(place) => Some(Bound::Own(place)),
-        },
-    }
-}
-
-fn push_rising(asks: &mut Row<Ask>, least: u64, low: Bound, high: Bound) -> Result<(), Memory>
-    ensures { OnOk result (asks.new ≡ asks.old ++ rising_or least low high) }
-{
-    match (low, high) {
-        (Bound::Fixed(_), Bound::Fixed(_)) => Ok(()),
-        _ => asks.push(Ask::Rising(RisingAsk { least, low, high })),
+    match places.get(low) {
+        None => Ok(()),
+        Some(place) => push_question(asks, places, high, Question::NotBelow(place)),
     }
 }
 
 fn push_bounds<'a>(
     asks: &mut Row<Ask>,
     places: &NameMap<'a, usize>,
-    element: &'a PrefixElement,
+    low: &'a RplNumber<u8>,
+    high: &'a RplNumber<u8>,
 ) -> Result<(), Memory>
-    ensures { OnOk result (asks.new ≡ asks.old ++ rising_asks (under places.now.entries) element.now.prefix.length element.now.least element.now.most) }
+    ensures { OnOk result (asks.new ≡ asks.old ++ bounds_asks (under places.now.entries) low.now high.now) }
 {
-    let Some(low) = bound_of(places, &element.least) else {
-        return Ok(());
-    };
-    let Some(high) = bound_of(places, &element.most) else {
-        return Ok(());
-    };
-    push_rising(asks, element.prefix.length() as u64, low, high)
+    match (low, high) {
+        (RplNumber::Fixed(least), _) => push_number(asks, places, *least as u64, 32, high),
+        (_, RplNumber::Fixed(most)) => push_number(asks, places, 0, *most as u64, low),
+        (RplNumber::Parameter(low), RplNumber::Parameter(high)) => {
+            push_rising(asks, places, low.as_slice(), high.as_slice())
+        }
+    }
 }
 
 fn push_prefix<'a>(
@@ -90,7 +98,7 @@ fn push_prefix<'a>(
     let length = element.prefix.length() as u64;
     push_number(asks, places, length, 32, &element.least)?;
     push_number(asks, places, length, 32, &element.most)?;
-    push_bounds(asks, places, element)
+    push_bounds(asks, places, &element.least, &element.most)
 }
 
 fn push_path_test<'a>(
@@ -118,20 +126,6 @@ fn push_path<'a>(
     match element {
         PathElement::Pattern(_) => Ok(()),
         PathElement::Test(test) => push_path_test(asks, places, test),
-    }
-}
-
-fn push_set_name<'a>(
-    asks: &mut Row<Ask>,
-    places: &NameMap<'a, usize>,
-    sort: SetSort,
-    name: &'a [u8],
-) -> Result<(), Memory>
-    ensures { OnOk result (asks.new ≡ asks.old ++ of_parameter (under places.now.entries) name.now (λ n. Set (record { place = n; sort = sort }))) }
-{
-    match places.get(name) {
-        None => Ok(()),
-        Some(place) => asks.push(Ask::Set(SetAsk { place, sort })),
     }
 }
 
@@ -174,7 +168,12 @@ fn push_prefix_set<'a>(
 {
     match set {
         RplSet::Named(_) => Ok(()),
-        RplSet::Parameter(name) => push_set_name(asks, places, SetSort::Prefix, name.as_slice()),
+        RplSet::Parameter(name) => push_question(
+            asks,
+            places,
+            name.as_slice(),
+            Question::Set(SetSort::Prefix),
+        ),
         RplSet::Listed(elements) => push_prefixes(asks, places, elements.as_slice()),
     }
 }
@@ -188,7 +187,12 @@ fn push_path_set<'a>(
 {
     match set {
         RplSet::Named(_) => Ok(()),
-        RplSet::Parameter(name) => push_set_name(asks, places, SetSort::Path, name.as_slice()),
+        RplSet::Parameter(name) => push_question(
+            asks,
+            places,
+            name.as_slice(),
+            Question::Set(SetSort::Path),
+        ),
         RplSet::Listed(elements) => push_paths(asks, places, elements.as_slice()),
     }
 }
@@ -203,7 +207,12 @@ fn push_community_set<'a>(
     match set {
         RplSet::Named(_) => Ok(()),
         RplSet::Parameter(name) => {
-            push_set_name(asks, places, SetSort::Community, name.as_slice())
+            push_question(
+                asks,
+                places,
+                name.as_slice(),
+                Question::Set(SetSort::Community),
+            )
         }
         RplSet::Listed(_) => Ok(()),
     }
@@ -245,40 +254,18 @@ fn push_terms<'a>(
     Ok(())
 }
 
-fn push_plain<'a>(
-    asks: &mut Row<Ask>,
-    places: &NameMap<'a, usize>,
-    span: Span,
-    set: &'a RplSet<Rect>,
-) -> Result<(), Memory>
-    ensures { OnOk result (asks.new ≡ asks.old ++ plain_asks (under places.now.entries) span.start span.end set.now) }
-{
-    if let RplSet::Parameter(name) = set {
-        if let Some(place) = places.get(name.as_slice()) {
-            let start = span.start;
-            let end = span.end;
-            asks.push(Ask::Plain(PlainAsk { place, start, end }))?;
-        }
-    }
-    Ok(())
-}
-
 fn push_action<'a>(
     asks: &mut Row<Ask>,
     places: &NameMap<'a, usize>,
-    span: Span,
     action: &'a Action,
 ) -> Result<(), Memory>
-    ensures { OnOk result (asks.new ≡ asks.old ++ action_asks (under places.now.entries) span.start span.end action.now) }
+    ensures { OnOk result (asks.new ≡ asks.old ++ action_asks (under places.now.entries) action.now) }
 {
     match action {
         Action::SetMed(number) => push_wide(asks, places, number),
         Action::SetLocalPreference(number) => push_wide(asks, places, number),
         Action::SetWeight(number) => push_number(asks, places, 0, 65535, number),
-        Action::SetCommunity(setting) => {
-            push_community_set(asks, places, &setting.set)?;
-            push_plain(asks, places, span, &setting.set)
-        }
+        Action::SetCommunity(setting) => push_community_set(asks, places, &setting.set),
         Action::DeleteCommunity(set) => push_community_set(asks, places, set),
         Action::Prepend(prepend) => {
             push_wide(asks, places, &prepend.number)?;
@@ -293,10 +280,9 @@ fn push_action<'a>(
 pub(crate) fn push_asks<'a>(
     asks: &mut Row<Ask>,
     places: &NameMap<'a, usize>,
-    span: Span,
     form: &'a RplForm,
 ) -> Result<(), Memory>
-    ensures { OnOk result (asks.new ≡ asks.old ++ form_asks (under places.now.entries) span.start span.end form.now) }
+    ensures { OnOk result (asks.new ≡ asks.old ++ form_asks (under places.now.entries) form.now) }
 {
     match form {
         RplForm::Statement(PolicyStatement::If(terms)) => push_terms(
@@ -307,7 +293,7 @@ pub(crate) fn push_asks<'a>(
         RplForm::Statement(PolicyStatement::ElseIf(terms)) => {
             push_terms(asks, places, terms.as_slice())
         }
-        RplForm::Statement(PolicyStatement::Act(action)) => push_action(asks, places, span, action),
+        RplForm::Statement(PolicyStatement::Act(action)) => push_action(asks, places, action),
         _ => Ok(()),
     }
 }

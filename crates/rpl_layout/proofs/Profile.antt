@@ -23,7 +23,8 @@ use Rattle.rpl_forms.specs.declared.item.RplForm.{RplForm}
 use Rattle.rpl_forms.specs.declared.item.RplForm.TheVariants.{Header as OfHeader, Element as OfElement, Statement, End}
 use Rattle.rpl_forms.specs.declared.item.RplItem.{RplItem}
 use Rattle.rpl_tree.specs.Tree.{forms}
-use Rattle.rpl_calls.specs.Calls.{call_in, call_of, calls_of}
+use Rattle.rpl_calls.specs.Arguments.{arguments_of}
+use Rattle.rpl_calls.specs.Calls.{call_in, call_of}
 use Rattle.rpl_calls.specs.Policies.{spoken_from, opens, policy_line, name_under, parameters_in, place_of}
 use Rattle.rpl_facts.specs.Blocks.{heads, is_single, takes_other}
 use Rattle.rpl_facts.specs.Uses.{Use, of_test, of_action, uses_of}
@@ -31,6 +32,7 @@ use Rattle.rpl_reader.specs.Causes.{is_unknown, is_second, misses, is_undefined,
 use Rattle.rpl_reader.specs.Depth.{is_too_deep, has_deep_group}
 use Rattle.rpl_reader.specs.Facts.{Facts, facts_of, Before, nothing_before, behind_form, before_of}
 use Rattle.rpl_reader.specs.Profile.{IsSound}
+use Rattle.rpl_reader.specs.Reach.{arguments_in}
 use Rattle.rpl_plans.specs.declared.actions.PlannedActions.{PlannedActions}
 use Rattle.rpl_plans.specs.declared.choice.PlannedTerm.{PlannedTerm}
 use Rattle.rpl_plans.specs.declared.choice.PlannedTerms.{PlannedTerms}
@@ -130,12 +132,14 @@ clean_sound policy items h span cause (inl fault) =
     let both : false ≡ true = sym none ∙ fault.has in
     absurd cc
 clean_sound policy items h span NotPlain (inr fault) =
-    let none : slice_get (calls_of items) fault.k ≡ None = ap (λ cs. slice_get cs fault.k) (no_calls policy (facts_of policy items) None items nothing_before h) in
-    let both = sym none ∙ fault.reached.there in
+    let none : slice_get (arguments_in items) fault.wide.k ≡ None =
+    ap (λ cs. slice_get (arguments_of cs) fault.wide.k) (no_calls policy (facts_of policy items) None items nothing_before h) in
+    let both = sym none ∙ fault.wide.there in
     absurd cc
 clean_sound policy items h span BadArgument (inr fault) =
-    let none : slice_get (calls_of items) fault.bad ≡ None = ap (λ cs. slice_get cs fault.bad) (no_calls policy (facts_of policy items) None items nothing_before h) in
-    let both = sym none ∙ fault.bad_at in
+    let none : slice_get (arguments_in items) fault.demand.argument ≡ None =
+    ap (λ cs. slice_get (arguments_of cs) fault.demand.argument) (no_calls policy (facts_of policy items) None items nothing_before h) in
+    let both = sym none ∙ fault.written.there in
     absurd cc
 clean_sound policy items h span _ (inr fault) = absurd fault
 

@@ -12,7 +12,7 @@ use Rattle.rpl_words.specs.declared.condition.RplTest.TheVariants.{Destination, 
 use Rattle.rpl_forms.specs.declared.item.Header.TheVariants.{PrefixSet, Policy}
 use Rattle.rpl_forms.specs.declared.item.Action.TheVariants.{SetWeight, SetCommunity}
 use Rattle.rpl_forms.specs.declared.item.Argument.{Argument}
-use Rattle.rpl_forms.specs.declared.item.Argument.TheVariants.{Written}
+use Rattle.rpl_forms.specs.declared.item.Argument.TheVariants.{Written, Parameter}
 use Rattle.rpl_forms.specs.declared.item.PolicyStatement.TheVariants.{If, Pass, Act, Apply}
 use Rattle.rpl_forms.specs.declared.item.RplForm.{RplForm}
 use Rattle.rpl_forms.specs.declared.item.RplForm.TheVariants.{Header as HeaderForm, Statement, End, Other}
@@ -21,14 +21,15 @@ use Rattle.policy_calls.specs.Calls.{leads}
 use Rattle.policy_calls.specs.Depth.{is_at, is_too_deep}
 use Rattle.rpl_calls.specs.Policies.{spoken_from, place_from}
 use Rattle.rpl_calls.specs.Calls.{CallParts}
-use Rattle.rpl_calls.specs.declared.ask.Ask.TheVariants.{Number, Rising}
-use Rattle.rpl_calls.specs.declared.ask.Bound.TheVariants.{Fixed, Own}
+use Rattle.rpl_calls.specs.declared.ask.Question.TheVariants.{Number, NotBelow}
+use Rattle.rpl_calls.specs.Parameters.{ParameterParts}
+use Rattle.rpl_calls.specs.declared.given.Fact.{Fact}
 use Rattle.rpl_facts.specs.Uses.{uses_of}
 use Rattle.rpl_reader.specs.Depth.{has_deep_group}
 use Rattle.rpl_facts.specs.Blocks.{has_wide}
 use Rattle.rpl_reader.specs.Facts.{Facts, facts_of, before_of}
 use Rattle.rpl_reader.specs.Causes.{has_cause}
-use Rattle.rpl_reader.specs.Profile.{wrong_at}
+use Rattle.rpl_reader.specs.Faults.{any_above, is_wrong}
 
 -- an item at a place
 abbrev item : ℕ → RplForm → RplItem
@@ -114,19 +115,28 @@ of_depth = refl
 -- ---- what is written as an argument
 
 abbrev call : List Argument → CallParts
-call arguments = record { caller = codes "P"; apply = record { policy = codes "Q"; arguments = arguments }; own = []; span = record { start = 0; end = 1 } }
+call arguments = record { caller = codes "P"; apply = record { policy = codes "Q"; arguments = arguments }; own = map (λ a. Some 0) arguments; span = record { start = 0; end = 1 } }
 
 abbrev no_facts : Facts
 no_facts = facts_of [] []
 
--- a weight of 65536 is written where one is asked for; two bounds that don't rise blame the second, or the first where
--- the second is one of the element
+-- no parameter may be anything, and each may be anything
+abbrev nothing : ParameterParts → Fact → Bool
+nothing p fact = false
+
+abbrev anything : ParameterParts → Fact → Bool
+anything p fact = true
+
+-- whether the word is wrong as the second argument of a call with this first one
+abbrev wrong_behind : (ParameterParts → Fact → Bool) → Argument → List ℕ → Bool
+wrong_behind may first word = is_wrong no_facts may (call (first ∷ Written word ∷ [])) word (NotBelow 0)
+
+-- a weight of 65536 is written where one is asked for; two bounds don't rise, where both are written and where the first
+-- is handed on
 arguments :
-    wrong_at no_facts (call (Written (codes "65536") ∷ [])) 7 (Number (record { place = 0; least = 0; most = 65535 }))
-    ∷ wrong_at no_facts (call (Written (codes "65535") ∷ [])) 7 (Number (record { place = 0; least = 0; most = 65535 }))
-    ∷ wrong_at no_facts (call (Written (codes "20") ∷ Written (codes "19") ∷ [])) 7 (Rising (record { least = 8; low = Own 0; high = Own 1 }))
-    ∷ wrong_at no_facts (call (Written (codes "20") ∷ Written (codes "20") ∷ [])) 7 (Rising (record { least = 8; low = Own 0; high = Own 1 }))
-    ∷ wrong_at no_facts (call (Written (codes "20") ∷ [])) 7 (Rising (record { least = 8; low = Own 0; high = Fixed 19 })) ∷ []
-    ≡ Some 7 ∷ None ∷ Some 7 ∷ None ∷ Some 7 ∷ []
-unfolding number_in
+    is_wrong no_facts nothing (call []) (codes "65536") (Number (record { least = 0; most = 65535 })) ∷ is_wrong no_facts nothing (call []) (codes "65535") (Number (record { least = 0; most = 65535 }))
+    ∷ wrong_behind nothing (Written (codes "20")) (codes "19") ∷ wrong_behind nothing (Written (codes "20")) (codes "20") ∷ wrong_behind nothing (Written (codes "33")) (codes "19")
+    ∷ wrong_behind anything (Parameter (codes "a")) (codes "31") ∷ wrong_behind anything (Parameter (codes "a")) (codes "32") ∷ wrong_behind nothing (Parameter (codes "a")) (codes "31") ∷ []
+    ≡ true ∷ false ∷ true ∷ false ∷ false ∷ true ∷ false ∷ false ∷ []
+unfolding number_in any_above
 arguments = refl

@@ -4,33 +4,28 @@ use Rattle.step_search.specs.Found.{IsIn}
 use Rattle.text_words.specs.declared.rpl_blocks.BlockKind.{BlockKind}
 use Rattle.policy_text.specs.Causes.{behind, Place}
 use Rattle.rpl_forms.specs.declared.item.RplItem.{RplItem}
-use Rattle.rpl_calls.specs.Calls.{CallParts}
-use Rattle.rpl_calls.specs.declared.demand.Demand.{Demand}
 use Rattle.rpl_reader.specs.Facts.{Facts, before_of}
-use Rattle.rpl_reader.specs.Faults.{Fault, earlier, is_open_reached, item_fault, earliest_item, given_fault, earliest_given}
+use Rattle.rpl_reader.specs.Faults.{Fault, earlier, is_open_reached, item_fault, earliest_item, earliest_of}
 use Rattle.rpl_reader.proofs.Earlier.{Keeps, IsAhead, both_keep, ahead_left, ahead_right}
 
--- ---- faults of arguments
+-- ---- faults of a list
 
-module _ (facts : Facts) (reached : List ℕ → Bool) (calls : List CallParts) where
-  abbrev fault_of : Demand → Option Fault
-  fault_of d = given_fault facts reached calls d
+module _ {A : Type 0} (fault : A → Option Fault) where
+  pub each_keeps : (P : Fault → Type 0) (found : Option Fault) (xs : List A) → Keeps P found → ((x : A) → IsIn x xs → Keeps P (fault x)) → Keeps P (earliest_of fault found xs)
+  unfolding earliest_of
+  each_keeps P found [] keeps each = keeps
+  each_keeps P found (x ∷ xs) keeps each = each_keeps P (earlier found (fault x)) xs (both_keep P found (fault x) keeps (each x (inl refl))) (λ y there. each y (inr there))
 
-  pub given_keeps : (P : Fault → Type 0) (found : Option Fault) (ds : List Demand) → Keeps P found → ((d : Demand) → IsIn d ds → Keeps P (fault_of d)) → Keeps P (earliest_given facts reached calls found ds)
-  unfolding earliest_given
-  given_keeps P found [] keeps each = keeps
-  given_keeps P found (d ∷ ds) keeps each = given_keeps P (earlier found (fault_of d)) ds (both_keep P found (fault_of d) keeps (each d (inl refl))) (λ e there. each e (inr there))
+  pub each_after : (h : Fault) (found : Option Fault) (xs : List A) → IsAhead found h → IsAhead (earliest_of fault found xs) h
+  unfolding earliest_of
+  each_after h found [] first = first
+  each_after h found (x ∷ xs) first = each_after h (earlier found (fault x)) xs (ahead_left found (fault x) h first)
 
-  given_after : (h : Fault) (found : Option Fault) (ds : List Demand) → IsAhead found h → IsAhead (earliest_given facts reached calls found ds) h
-  unfolding earliest_given
-  given_after h found [] first = first
-  given_after h found (d ∷ ds) first = given_after h (earlier found (fault_of d)) ds (ahead_left found (fault_of d) h first)
-
-  pub given_ahead : (h : Fault) (found : Option Fault) (ds : List Demand) (d : Demand) → IsIn d ds → IsAhead (fault_of d) h → IsAhead (earliest_given facts reached calls found ds) h
-  unfolding earliest_given
-  given_ahead h found [] d there first = absurd there
-  given_ahead h found (e ∷ ds) d (inl is) first = given_after h (earlier found (fault_of e)) ds (ahead_right found (fault_of e) h (subst (λ (x : Demand). IsAhead (fault_of x) h) is first))
-  given_ahead h found (e ∷ ds) d (inr more) first = given_ahead h (earlier found (fault_of e)) ds d more first
+  pub each_ahead : (h : Fault) (found : Option Fault) (xs : List A) (x : A) → IsIn x xs → IsAhead (fault x) h → IsAhead (earliest_of fault found xs) h
+  unfolding earliest_of
+  each_ahead h found [] x there first = absurd there
+  each_ahead h found (y ∷ xs) x (inl is) first = each_after h (earlier found (fault y)) xs (ahead_right found (fault y) h (subst (λ (z : A). IsAhead (fault z) h) is first))
+  each_ahead h found (y ∷ xs) x (inr more) first = each_ahead h (earlier found (fault y)) xs x more first
 
 -- ---- faults of items
 

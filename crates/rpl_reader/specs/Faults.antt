@@ -1,5 +1,5 @@
 -- How the first fault is found: of all faults, in whatever order they are met, the one that comes first is kept.
-use Rattle.std.specs.Prelude.{ℕ, Bool, true, false, ◌&&◌, ◌||◌, ◌==◌, nat_lt, nat_le, List, [], ◌∷◌, Option, Some, None, option_map, slice_get}
+use Rattle.std.specs.Prelude.{ℕ, zero, suc, Bool, true, false, ◌&&◌, ◌||◌, ◌==◌, nat_lt, nat_le, List, [], ◌∷◌, Option, Some, None, option_map, slice_get}
 use Rattle.text_words.specs.declared.statement.Span.{Span}
 use Rattle.text_words.specs.declared.rpl_blocks.BlockKind.{BlockKind}
 use Rattle.policy_text.specs.Causes.{first_cause}
@@ -8,14 +8,19 @@ use Rattle.policy_text.specs.declared.fault.Cause.TheVariants.{NotPlain, BadArgu
 use Rattle.rpl_forms.specs.declared.item.RplForm.{RplForm}
 use Rattle.rpl_forms.specs.declared.item.RplItem.{RplItem}
 use Rattle.rpl_calls.specs.Policies.{opens, name_under}
+use Rattle.route_types.specs.Words.{number_in}
 use Rattle.rpl_calls.specs.Calls.{CallParts}
-use Rattle.rpl_calls.specs.Demands.{word_at}
-use Rattle.rpl_calls.specs.declared.ask.Ask.{Ask}
-use Rattle.rpl_calls.specs.declared.ask.Ask.TheVariants.{Number, Set, Plain, Rising}
+use Rattle.rpl_calls.specs.Parameters.{ParameterParts}
+use Rattle.rpl_calls.specs.Arguments.{ArgumentParts, word_at, handed_at, written}
+use Rattle.rpl_calls.specs.Settings.{Setting}
+use Rattle.rpl_calls.specs.declared.ask.Question.{Question}
+use Rattle.rpl_calls.specs.declared.ask.Question.TheVariants.{Number, Set, NotBelow}
 use Rattle.rpl_calls.specs.declared.demand.Demand.{Demand}
+use Rattle.rpl_calls.specs.declared.given.Fact.{Fact}
+use Rattle.rpl_calls.specs.declared.given.Fact.TheVariants.{Wide, Length}
 use Rattle.rpl_reader.specs.Facts.{Facts, Before, behind_form}
 use Rattle.rpl_reader.specs.Causes.{has_cause}
-use Rattle.rpl_reader.specs.Profile.{rank, is_unplain, wrong_at}
+use Rattle.rpl_reader.specs.Profile.{rank, is_out, is_no_set}
 
 -- a statement's span, and a cause that it has
 abbrev pub Fault : Type 0
@@ -54,27 +59,48 @@ earliest_item policy facts reached found before open_before (i ∷ is) =
 
 -- ---- faults of arguments
 
--- the argument of this call is bad
-abbrev pub bad_call : List CallParts → Option ℕ → Option Fault
-bad_call calls None = None
-bad_call calls (Some k) = option_map (λ c. (c.span, BadArgument)) (slice_get calls k)
+-- a parameter may be a number above this one, and below n
+unfoldable pub any_above : (ParameterParts → Fact → Bool) → ParameterParts → ℕ → ℕ → Bool
+any_above may p value zero = false
+any_above may p value (suc n) = (nat_lt value n && may p (Length n)) || any_above may p value n
 
--- the fault that call k, which is c, has where it is asked for this
-abbrev pub asked_fault : Facts → List CallParts → CallParts → ℕ → Ask → Option Fault
-asked_fault facts calls c k (Number a) = bad_call calls (wrong_at facts c k (Number a))
-asked_fault facts calls c k (Set a) = bad_call calls (wrong_at facts c k (Set a))
-asked_fault facts calls c k (Rising a) = bad_call calls (wrong_at facts c k (Rising a))
-asked_fault facts calls c k (Plain a) = elim (is_unplain facts (word_at c a.place)) [ true ↦ Some (record { start = a.start; end = a.end }, NotPlain) | false ↦ None ]
+-- what is written or handed on may be a number above this one, up to 32
+abbrev pub number_above : ℕ → Option ℕ → Bool
+number_above value None = false
+number_above value (Some n) = nat_lt value n
 
--- the fault that a reached call has by what it is asked for
-abbrev pub call_fault : Facts → (List ℕ → Bool) → List CallParts → Demand → Option CallParts → Option Fault
-call_fault facts reached calls d None = None
-call_fault facts reached calls d (Some c) = elim (reached c.caller) [ true ↦ asked_fault facts calls c d.call d.ask | false ↦ None ]
+abbrev pub stands_above : (ParameterParts → Fact → Bool) → ℕ → Option (List ℕ) → Option ParameterParts → Bool
+stands_above may value (Some word) p = number_above value (number_in 32 word)
+stands_above may value None (Some p) = any_above may p value 33
+stands_above may value None None = false
 
-abbrev pub given_fault : Facts → (List ℕ → Bool) → List CallParts → Demand → Option Fault
-given_fault facts reached calls d = call_fault facts reached calls d (slice_get calls d.call)
+-- a number up to 32 is below one that may stand at a place of the call
+abbrev pub value_below : (ParameterParts → Fact → Bool) → CallParts → ℕ → Option ℕ → Bool
+value_below may c place None = false
+value_below may c place (Some value) = stands_above may value (word_at c place) (handed_at c place)
 
--- the first fault by what calls are asked for, or the one that was found before
-unfoldable pub earliest_given : Facts → (List ℕ → Bool) → List CallParts → Option Fault → List Demand → Option Fault
-earliest_given facts reached calls found [] = found
-earliest_given facts reached calls found (d ∷ ds) = earliest_given facts reached calls (earlier found (given_fault facts reached calls d)) ds
+-- a word that is written in a call isn't what is asked for
+abbrev pub is_wrong : Facts → (ParameterParts → Fact → Bool) → CallParts → List ℕ → Question → Bool
+is_wrong facts may c word (Number range) = is_out range.least range.most word
+is_wrong facts may c word (Set sort) = is_no_set facts sort word
+is_wrong facts may c word (NotBelow place) = value_below may c place (number_in 32 word)
+
+-- the fault of a call with this argument, where it is asked this
+abbrev pub word_fault : Facts → (ParameterParts → Fact → Bool) → CallParts → Question → Option (List ℕ) → Option Fault
+word_fault facts may c question None = None
+word_fault facts may c question (Some word) = elim (is_wrong facts may c word question) [ true ↦ Some (c.span, BadArgument) | false ↦ None ]
+
+abbrev pub argument_fault : Facts → (List ℕ → Bool) → (ParameterParts → Fact → Bool) → ArgumentParts → Question → Option Fault
+argument_fault facts reached may a question = elim (reached a.call.caller) [ true ↦ word_fault facts may a.call question (written a) | false ↦ None ]
+
+abbrev pub given_fault : Facts → (List ℕ → Bool) → (ParameterParts → Fact → Bool) → List ArgumentParts → Demand → Option Fault
+given_fault facts reached may args d = elim (slice_get args d.argument) [ None ↦ None | Some a ↦ argument_fault facts reached may a d.question ]
+
+-- the fault of a statement that sets the communities of what is handed to its policy
+abbrev pub setting_fault : (ParameterParts → Fact → Bool) → Setting → Option Fault
+setting_fault may s = elim (may (record { policy = s.policy; place = s.place }) Wide) [ true ↦ Some (s.span, NotPlain) | false ↦ None ]
+
+-- the first fault that these have, or the one that was found before
+unfoldable pub earliest_of : {A : Type 0} → (A → Option Fault) → Option Fault → List A → Option Fault
+earliest_of fault found [] = found
+earliest_of fault found (x ∷ xs) = earliest_of fault (earlier found (fault x)) xs

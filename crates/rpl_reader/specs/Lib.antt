@@ -2,8 +2,10 @@ pub mod Depth
 pub mod Facts
 pub mod Causes
 pub mod Reach
+pub mod Givens
 pub mod Profile
 pub mod Sets
+pub mod Possible
 pub mod Known
 pub mod Holding
 pub mod Holds

@@ -8,19 +8,22 @@ use Rattle.policy_text.specs.declared.fault.Cause.TheVariants.{UnknownForm, Defi
 use Rattle.policy_text.specs.declared.fault.CheckFault.{CheckFault}
 use Rattle.policy_text.specs.declared.fault.CheckFault.TheVariants.{NoPolicy, Outside, Memory}
 use Rattle.rpl_forms.specs.declared.item.RplItem.{RplItem}
-use Rattle.rpl_calls.specs.Calls.{CallParts, calls_of}
-use Rattle.rpl_calls.specs.Demands.{word_at, number_within, rising_up}
-use Rattle.rpl_calls.specs.declared.ask.Ask.{Ask}
-use Rattle.rpl_calls.specs.declared.ask.Ask.TheVariants.{Number, Set, Plain, Rising}
-use Rattle.rpl_calls.specs.declared.ask.Bound.{Bound}
-use Rattle.rpl_calls.specs.declared.ask.Bound.TheVariants.{Fixed, Written}
-use Rattle.rpl_calls.specs.declared.ask.RisingAsk.{RisingAsk}
+use Rattle.route_types.specs.Words.{number_in}
+use Rattle.step_search.specs.Found.{IsIn}
+use Rattle.rpl_calls.specs.Calls.{CallParts}
+use Rattle.rpl_calls.specs.Arguments.{ArgumentParts}
+use Rattle.rpl_calls.specs.Demands.{number_within}
+use Rattle.rpl_calls.specs.Settings.{Setting, settings_of}
+use Rattle.rpl_calls.specs.declared.ask.Question.{Question}
+use Rattle.rpl_calls.specs.declared.ask.Question.TheVariants.{Number, Set, NotBelow}
 use Rattle.rpl_calls.specs.declared.ask.SetSort.{SetSort}
 use Rattle.rpl_calls.specs.declared.demand.Demand.{Demand}
+use Rattle.rpl_calls.specs.declared.given.Fact.TheVariants.{Wide}
 use Rattle.rpl_facts.specs.Blocks.{is_there, block_of}
 use Rattle.rpl_reader.specs.Facts.{Facts, facts_of, before_of}
 use Rattle.rpl_reader.specs.Causes.{has_cause}
-use Rattle.rpl_reader.specs.Reach.{IsReachedCall, IsDemanded, IsReached}
+use Rattle.rpl_reader.specs.Reach.{IsWritten, IsDemanded, IsReached}
+use Rattle.rpl_reader.specs.Givens.{MayBe, MayStand}
 
 -- a policy as clauses see it
 pub record PolicyParts : Type 0 where
@@ -33,38 +36,28 @@ is_defined name all = is_there PolicyBlock name all
 
 -- ---- what a written argument fails
 
--- the argument at a place is written, and it isn't a number from one to another
-abbrev pub is_out : ℕ → ℕ → Option (List ℕ) → Bool
-is_out least most None = false
-is_out least most (Some word) = elim (number_within least most word) [ None ↦ true | Some n ↦ false ]
+-- it isn't a number from one to another
+abbrev pub is_out : ℕ → ℕ → List ℕ → Bool
+is_out least most word = elim (number_within least most word) [ None ↦ true | Some n ↦ false ]
 
--- it is written, and no set of the sort has this name
-abbrev pub is_no_set : Facts → SetSort → Option (List ℕ) → Bool
-is_no_set facts sort None = false
-is_no_set facts sort (Some word) = not (facts.there (block_of sort) word)
+-- no set of the sort has this name
+abbrev pub is_no_set : Facts → SetSort → List ℕ → Bool
+is_no_set facts sort word = not (facts.there (block_of sort) word)
 
--- it is written, and it names a community set with an element that isn't a single community
-abbrev pub is_unplain : Facts → Option (List ℕ) → Bool
-is_unplain facts None = false
-is_unplain facts (Some word) = facts.wide word
+-- it is a number up to 32, and below another one that may stand at a place of the same call
+pub record IsBelow (policy : List ℕ) (all : List RplItem) (call : CallParts) (place : ℕ) (word : List ℕ) : Type 0 where
+  pub value : ℕ
+  pub is : number_in 32 word ≡ Some value
+  pub other : ℕ
+  pub stands : MayStand policy all call place other
+  pub within : other ≤ 32
+  pub below : value < other
 
--- of two bounds that don't rise: the call in which the second was written, or else the first
-abbrev pub blamed : Bound → Bound → Option ℕ
-blamed (Written l) (Written h) = elim (nat_lt h.value l.value) [ true ↦ Some h.call | false ↦ None ]
-blamed (Fixed m) (Written h) = elim (nat_lt h.value m) [ true ↦ Some h.call | false ↦ None ]
-blamed (Written l) (Fixed n) = elim (nat_lt n l.value) [ true ↦ Some l.call | false ↦ None ]
-blamed _ _ = None
-
-abbrev pub blamed_of : Option RisingAsk → Option ℕ
-blamed_of None = None
-blamed_of (Some r) = blamed r.low r.high
-
--- the call whose argument an ask at call k, which is c, finds wrong
-abbrev pub wrong_at : Facts → CallParts → ℕ → Ask → Option ℕ
-wrong_at facts c k (Number a) = elim (is_out a.least a.most (word_at c a.place)) [ true ↦ Some k | false ↦ None ]
-wrong_at facts c k (Set a) = elim (is_no_set facts a.sort (word_at c a.place)) [ true ↦ Some k | false ↦ None ]
-wrong_at facts c k (Plain a) = None
-wrong_at facts c k (Rising r) = blamed_of (rising_up c k r)
+-- a word that is written in a call isn't what is asked for
+abbrev pub IsWrong : List ℕ → List RplItem → CallParts → List ℕ → Question → Type 0
+IsWrong policy all call word (Number range) = is_out range.least range.most word ≡ true
+IsWrong policy all call word (Set sort) = is_no_set (facts_of policy all) sort word ≡ true
+IsWrong policy all call word (NotBelow place) = IsBelow policy all call place word
 
 -- ---- the faults
 
@@ -75,31 +68,27 @@ pub record HasItemFault (policy : List ℕ) (all : List RplItem) (span : Span) (
   pub has : has_cause policy (facts_of policy all) (before_of place.before) place.item.form cause ≡ true
   pub span_is : span ≡ place.item.span
 
--- bad-argument: what a reached call is asked for finds an argument wrong that was written in a call
-pub record IsBadCall (policy : List ℕ) (all : List RplItem) (span : Span) : Type 0 where
+-- bad-argument: an argument that is written in a policy that is reached isn't what it is asked
+pub record IsBadArgument (policy : List ℕ) (all : List RplItem) (span : Span) : Type 0 where
   pub demand : Demand
   pub asked : IsDemanded all demand
-  pub call : CallParts
-  pub reached : IsReachedCall policy all demand.call call
-  pub bad : ℕ
-  pub wrong : wrong_at (facts_of policy all) call demand.call demand.ask ≡ Some bad
-  pub bad_call : CallParts
-  pub bad_at : slice_get (calls_of all) bad ≡ Some bad_call
-  pub span_is : span ≡ bad_call.span
+  pub argument : ArgumentParts
+  pub word : List ℕ
+  pub written : IsWritten policy all demand.argument argument word
+  pub wrong : IsWrong policy all argument.call word demand.question
+  pub span_is : span ≡ argument.call.span
 
--- not-plain: a set that isn't plain is written as an argument of a reached call, and a statement sets the communities of it
+-- not-plain: the statement sets the communities of a parameter that may be a set that isn't plain
 pub record IsGivenWide (policy : List ℕ) (all : List RplItem) (span : Span) : Type 0 where
-  pub k : ℕ
-  pub place : ℕ
-  pub call : CallParts
-  pub reached : IsReachedCall policy all k call
-  pub asked : IsDemanded all (record { call = k; ask = Plain (record { place = place; start = span.start; end = span.end }) })
-  pub wide : is_unplain (facts_of policy all) (word_at call place) ≡ true
+  pub setting : Setting
+  pub there : IsIn setting (settings_of all)
+  pub wide : MayBe policy all (record { policy = setting.policy; place = setting.place }) Wide
+  pub span_is : span ≡ setting.span
 
--- an argument that is handed on has the cause
+-- a statement has the cause by what is handed to its policy, or by what it hands on
 abbrev pub HasGivenFault : List ℕ → List RplItem → Span → Cause → Type 0
 HasGivenFault policy all span NotPlain = IsGivenWide policy all span
-HasGivenFault policy all span BadArgument = IsBadCall policy all span
+HasGivenFault policy all span BadArgument = IsBadArgument policy all span
 HasGivenFault policy all span _ = ⊥
 
 -- a statement at this span has the cause

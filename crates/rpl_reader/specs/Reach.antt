@@ -8,9 +8,10 @@ use Rattle.step_search.specs.Found.{IsFound}
 use Rattle.policy_calls.specs.Calls.{Link, is_reached}
 use Rattle.rpl_calls.specs.Policies.{Spoken, spoken_from, opens, name_under}
 use Rattle.rpl_calls.specs.Asks.{asks_of}
-use Rattle.rpl_calls.specs.Calls.{CallParts, calls_of, links}
-use Rattle.rpl_calls.specs.Demands.{next_demands, first_demands, word_at}
-use Rattle.rpl_calls.specs.declared.ask.Ask.TheVariants.{Set}
+use Rattle.rpl_calls.specs.Calls.{calls_of, links}
+use Rattle.rpl_calls.specs.Arguments.{ArgumentParts, arguments_of, written}
+use Rattle.rpl_calls.specs.Demands.{next_demands, first_demands}
+use Rattle.rpl_calls.specs.declared.ask.Question.TheVariants.{Set}
 use Rattle.rpl_calls.specs.declared.ask.SetSort.{SetSort}
 use Rattle.rpl_calls.specs.declared.demand.Demand.{Demand}
 use Rattle.rpl_facts.specs.Uses.{Use, UsesSet, UsesParameter, uses_of}
@@ -24,14 +25,19 @@ links_in all = links (calls_of all)
 abbrev pub is_reached_policy : List ℕ → List RplItem → List ℕ → Bool
 is_reached_policy policy all name = is_reached (links_in all) (policy ∷ []) name
 
--- a call of the text stands in a policy that is reached
-pub record IsReachedCall (policy : List ℕ) (all : List RplItem) (k : ℕ) (call : CallParts) : Type 0 where
-  pub there : slice_get (calls_of all) k ≡ Some call
-  pub reached : is_reached_policy policy all call.caller ≡ true
+-- the arguments of the calls of a text
+abbrev pub arguments_in : List RplItem → List ArgumentParts
+arguments_in all = arguments_of (calls_of all)
 
--- a call is asked for this, by what it applies or by what that leads to
+-- the argument at a place among all is this word, and its call stands in a policy that is reached
+pub record IsWritten (policy : List ℕ) (all : List RplItem) (k : ℕ) (argument : ArgumentParts) (word : List ℕ) : Type 0 where
+  pub there : slice_get (arguments_in all) k ≡ Some argument
+  pub reached : is_reached_policy policy all argument.call.caller ≡ true
+  pub is : written argument ≡ Some word
+
+-- an argument is asked this, by the policy that it is handed to or by what that hands it on to
 abbrev pub IsDemanded : List RplItem → Demand → Type 0
-IsDemanded all d = IsFound (next_demands (calls_of all)) (first_demands (calls_of all) (asks_of all)) d
+IsDemanded all d = IsFound (next_demands (arguments_in all)) (first_demands (arguments_in all) (asks_of all)) d
 
 -- the set of this kind and name is used
 abbrev pub is_use : BlockKind → List ℕ → Use → Bool
@@ -45,16 +51,14 @@ names_set reached kind name s = reached (name_under s.line) && list_any (is_use 
 abbrev pub is_named_by : List ℕ → List RplItem → BlockKind → List ℕ → Bool
 is_named_by policy all kind name = list_any (names_set (is_reached_policy policy all) kind name) (spoken_from None all)
 
--- the set's name is written as an argument of a reached call, and a set of its kind is asked for there
+-- the set's name is written as an argument in a policy that is reached, and a set of its kind is asked for there
 pub record IsGiven (policy : List ℕ) (all : List RplItem) (kind : BlockKind) (name : List ℕ) : Type 0 where
   pub k : ℕ
-  pub place : ℕ
   pub sort : SetSort
-  pub call : CallParts
-  pub reached : IsReachedCall policy all k call
-  pub asked : IsDemanded all (record { call = k; ask = Set (record { place = place; sort = sort }) })
+  pub argument : ArgumentParts
+  pub written : IsWritten policy all k argument name
+  pub asked : IsDemanded all (record { argument = k; question = Set sort })
   pub of_kind : is_kind kind (block_of sort) ≡ true
-  pub written : word_at call place ≡ Some name
 
 -- a block of this kind and name is reached
 abbrev pub IsReachedBlock : List ℕ → List RplItem → BlockKind → List ℕ → Type 0

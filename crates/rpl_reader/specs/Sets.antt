@@ -3,10 +3,9 @@ use Rattle.std.specs.Prelude.{ℕ, Bool, false, ◌&&◌, List, Option, Some, No
 use Rattle.std.specs.List.{list_any}
 use Rattle.policy_text.specs.NameSets.{is_key}
 use Rattle.rpl_calls.specs.Policies.{Spoken, name_under}
-use Rattle.rpl_calls.specs.Calls.{CallParts}
-use Rattle.rpl_calls.specs.Demands.{word_at}
-use Rattle.rpl_calls.specs.declared.ask.Ask.{Ask}
-use Rattle.rpl_calls.specs.declared.ask.Ask.TheVariants.{Set}
+use Rattle.rpl_calls.specs.Arguments.{ArgumentParts, written}
+use Rattle.rpl_calls.specs.declared.ask.Question.{Question}
+use Rattle.rpl_calls.specs.declared.ask.Question.TheVariants.{Set}
 use Rattle.rpl_calls.specs.declared.ask.SetSort.{SetSort}
 use Rattle.rpl_calls.specs.declared.demand.Demand.{Demand}
 use Rattle.rpl_facts.specs.Uses.{Use, UsesSet, UsesParameter, uses_of}
@@ -30,15 +29,15 @@ abbrev pub is_written_as : List ℕ → ℕ → ℕ → SetSort → Option (List
 is_written_as q s n sort None = false
 is_written_as q s n sort (Some name) = is_set q s n sort name
 
--- they are those of a set that is written in a call that is asked for this
-abbrev pub is_written : List ℕ → ℕ → ℕ → CallParts → Ask → Bool
-is_written q s n c (Set a) = is_written_as q s n a.sort (word_at c a.place)
-is_written q s n c _ = false
+-- they are those of a set that is written where this is asked
+abbrev pub is_written : List ℕ → ℕ → ℕ → Option (List ℕ) → Question → Bool
+is_written q s n word (Set sort) = is_written_as q s n sort word
+is_written q s n word _ = false
 
--- the same of a reached call, if there is one
-abbrev pub is_given_at : (List ℕ → Bool) → List ℕ → ℕ → ℕ → Ask → Option CallParts → Bool
-is_given_at reached q s n ask None = false
-is_given_at reached q s n ask (Some c) = reached c.caller && is_written q s n c ask
+-- the same of an argument of a reached policy, if there is one
+abbrev pub is_given_at : (List ℕ → Bool) → List ℕ → ℕ → ℕ → Question → Option ArgumentParts → Bool
+is_given_at reached q s n question None = false
+is_given_at reached q s n question (Some a) = reached a.call.caller && is_written q s n (written a) question
 
-abbrev pub gives : (List ℕ → Bool) → List CallParts → List ℕ → ℕ → ℕ → Demand → Bool
-gives reached calls q s n d = is_given_at reached q s n d.ask (slice_get calls d.call)
+abbrev pub gives : (List ℕ → Bool) → List ArgumentParts → List ℕ → ℕ → ℕ → Demand → Bool
+gives reached args q s n d = is_given_at reached q s n d.question (slice_get args d.argument)

@@ -3,12 +3,13 @@ ghost use Rattle.rpl_reader.specs.Profile.{is_defined, InProfile, IsSound, IsFir
 
 use crate::checked::CheckedRpl;
 use crate::faults::Fault;
-use crate::given::earliest_given;
+use crate::given::{earliest_given, earliest_setting};
 use crate::items::earliest_item;
 use crate::known::known_of;
+use crate::possible::possible_of;
 use policy_text::{CheckFault, copied, has_name};
-use route_types::{Memory, Row};
-use rpl_calls::{Calls, demands, said_by};
+use route_types::Memory;
+use rpl_calls::{Arguments, demands, said_by};
 use rpl_facts::{blocks_of, kind_code};
 use rpl_forms::{BlockKind, RplItem};
 use rpl_tree::RplTree;
@@ -23,13 +24,17 @@ fn first_fault<'a>(
     ensures { IfOk result (λ o. MatchOption o (IsSound name.now items.now) (λ f. IsFirstFault name.now items.now f.0 f.1)) }
 {
     let said = said_by(alloc, items)?;
-    let calls = Calls::of(alloc, said.calls)?;
+    let calls = said.calls.as_slice();
+    let arguments = Arguments::of(alloc, calls)?;
     let asks = said.asks.as_slice();
-    let set = demands(alloc, &calls, asks)?;
+    let set = demands(alloc, &arguments, asks)?;
     let asked = set.as_slice();
-    let known = known_of(alloc, name, items, &calls, asked)?;
-    let given = earliest_given(&known, &calls, asked);
-    let fault = earliest_item(alloc, &known, given, items)?;
+    let known = known_of(alloc, name, items, calls, &arguments, asked)?;
+    let possible = possible_of(alloc, &known, &arguments)?;
+    let given = earliest_given(&known, &possible, &arguments, asked);
+    let settings = said.settings.as_slice();
+    let other = earliest_setting(&possible, given, settings);
+    let fault = earliest_item(alloc, &known, other, items)?;
     Ok(fault)
 }
 
@@ -58,15 +63,6 @@ fn refusal(alloc: Global, name: &[u8], items: &[RplItem]) -> Option<CheckFault>
     }
 }
 
-// The name alone.
-fn names_of(alloc: Global, name: &[u8]) -> Result<Row<Row<u8>>, Memory>
-    ensures { IfOk result (λ names. names ≡ name.now ∷ []) }
-{
-    let mut names = Row::new(alloc);
-    names.push(copied(alloc, name)?)?;
-    Ok(names)
-}
-
 /// Checks that a policy lies in the profile: a `route-policy` stands under the name, and no statement of it, of the
 /// policies that its `apply` statements lead to, or of the sets that all of these name or are handed has a fault. What
 /// other blocks say is not looked at. The tree is moved into the checked policy, and the name is copied.
@@ -91,8 +87,8 @@ pub fn check_rpl(alloc: Global, tree: RplTree, name: &[u8]) -> Result<CheckedRpl
     if let Some(fault) = refusal(alloc, name, tree.items()) {
         return Err(fault);
     }
-    let Ok(names) = names_of(alloc, name) else {
+    let Ok(name) = copied(alloc, name) else {
         return Err(CheckFault::Memory);
     };
-    Ok(CheckedRpl { tree, names })
+    Ok(CheckedRpl { tree, name })
 }

@@ -1,158 +1,213 @@
-//! The faults of what is written as an argument.
-ghost use Rattle.std.specs.Prelude.{◌≡◌, option_map, slice_get, Some, None, true, false};
+//! The faults of what is written as an argument, and of what is set by it.
+ghost use Rattle.std.specs.Prelude.{◌≡◌, ◌&&◌, nat_lt, option_map, Some, None};
 ghost use Rattle.policy_text.specs.declared.fault.Cause.TheVariants.{NotPlain};
-ghost use Rattle.rpl_calls.specs.Demands.{word_at};
-ghost use Rattle.rpl_calls.specs.Said.{call_parts};
-ghost use Rattle.rpl_reader.specs.Profile.{is_out, is_no_set, is_unplain, blamed, blamed_of, wrong_at};
+ghost use Rattle.route_types.specs.Words.{number_in};
+ghost use Rattle.rpl_calls.specs.Arguments.{word_at, handed_at};
+ghost use Rattle.rpl_calls.specs.Listed.{handing_parts};
+ghost use Rattle.rpl_calls.specs.declared.given.Fact.TheVariants.{Length};
+ghost use Rattle.rpl_calls.specs.Said.{call_parts, setting_parts, settings_in};
+ghost use Rattle.rpl_calls.specs.Table.{parameter_parts, parameter_in};
+ghost use Rattle.rpl_reader.specs.Profile.{is_out, is_no_set};
 ghost use Rattle.rpl_reader.specs.Known.{known_facts, known_policy};
-ghost use Rattle.rpl_reader.specs.Faults.{bad_call, asked_fault, given_fault, earliest_given};
+ghost use Rattle.rpl_reader.specs.Possible.{known_may};
+ghost use Rattle.rpl_reader.specs.Faults.{any_above, number_above, stands_above, value_below, is_wrong, word_fault, argument_fault, given_fault, setting_fault, earliest_of};
 
 use crate::faults::{Fault, earlier};
 use crate::known::{Known, is_reached_policy};
+use crate::possible::{Possible, may_be};
 use crate::sets::block_of;
-use policy_text::{Cause, Span, has_name};
+use policy_text::{Cause, has_name, read_number};
 use rpl_calls::{
-    Ask, Bound, Call, Calls, Demand, NumberAsk, PlainAsk, RisingAsk, SetAsk, number_within,
-    rising_up, word_at,
+    Arguments, Call, Demand, Fact, Handing, NumberRange, Parameter, Question, SetSort, Setting,
+    handed_at, number_within, word_at,
 };
 use rpl_facts::kind_code;
 
 // Whether what is written for a number isn't one in its range.
-fn is_out(call: &Call<'_>, ask: NumberAsk) -> bool
-    ensures { result ≡ is_out ask.least ask.most (word_at (call_parts call.now) ask.place) }
+fn is_out(range: NumberRange, word: &[u8]) -> bool
+    ensures { result ≡ is_out range.least range.most word.now }
 {
-    match word_at(call, ask.place) {
-        None => false,
-        Some(word) => number_within(ask.least, ask.most, word).is_none(),
-    }
+    number_within(range.least, range.most, word).is_none()
 }
 
 // Whether what is written for a set names none of its sort.
-fn is_no_set<'a>(known: &Known<'a>, call: &Call<'a>, ask: SetAsk) -> bool
-    ensures { result ≡ is_no_set (known_facts known.now) ask.sort (word_at (call_parts call.now) ask.place) }
+fn is_no_set<'a>(known: &Known<'a>, sort: SetSort, word: &'a [u8]) -> bool
+    ensures { result ≡ is_no_set (known_facts known.now) sort word.now }
 {
-    match word_at(call, ask.place) {
+    !has_name(&known.there, word, kind_code(block_of(sort)), 0)
+}
+
+// Whether a number is above this one, and a parameter may be it.
+fn is_above<'a>(possible: &Possible<'a>, parameter: Parameter<'a>, value: u64, number: u64) -> bool
+    ensures { result ≡ (nat_lt value number && known_may possible.now (parameter_parts parameter.entry) (Length number)) }
+{
+    value < number && may_be(possible, parameter, Fact::Length(number))
+}
+
+// Whether a parameter may be a number above this one, up to 32.
+#[tactic(auto, unfolding(crate::specs::Faults::any_above))]
+fn any_above<'a>(possible: &Possible<'a>, parameter: Parameter<'a>, value: u64) -> bool
+    ensures { result ≡ any_above (known_may possible.now) (parameter_parts parameter.entry) value 33 }
+{
+    let mut number: u64 = 33;
+    while 0 < number {
+        number -= 1;
+        if is_above(possible, parameter, value, number) {
+            return true;
+        }
+    }
+    false
+}
+
+fn number_above(value: u64, number: Option<u64>) -> bool
+    ensures { result ≡ number_above value number }
+{
+    match number {
         None => false,
-        Some(word) => !has_name(&known.there, word, kind_code(block_of(ask.sort)), 0),
+        Some(number) => value < number,
     }
 }
 
-// Whether what is written names a community set with an element that isn't a single community.
-fn is_unplain<'a>(known: &Known<'a>, call: &Call<'a>, ask: PlainAsk) -> bool
-    ensures { result ≡ is_unplain (known_facts known.now) (word_at (call_parts call.now) ask.place) }
+// Whether what is written or handed on may be a number above this one, up to 32.
+fn stands_above<'a>(
+    possible: &Possible<'a>,
+    value: u64,
+    word: Option<&'a [u8]>,
+    parameter: Option<Parameter<'a>>,
+) -> bool
+    ensures { result ≡ stands_above (known_may possible.now) value (option_map (λ w. w.now) word.entry) (parameter_in parameter.entry) }
 {
-    match word_at(call, ask.place) {
+    match (word, parameter) {
+        (Some(word), _) => number_above(value, read_number(word, 32)),
+        (None, Some(parameter)) => any_above(possible, parameter, value),
+        (None, None) => false,
+    }
+}
+
+// Whether a word is a number that is below one that may stand at a place of the call's arguments.
+fn is_below<'a>(possible: &Possible<'a>, call: &Call<'a>, place: usize, word: &'a [u8]) -> bool
+    ensures { result ≡ value_below (known_may possible.now) (call_parts call.now) place (number_in 32 word.now) }
+{
+    match read_number(word, 32) {
         None => false,
-        Some(word) => has_name(&known.wide, word, 0, 0),
-    }
-}
-
-// The place of a call, where something holds.
-fn some_where(holds: bool, place: usize) -> Option<usize>
-    ensures { result ≡ elim holds [ true ↦ Some place | false ↦ None ] }
-{
-    if holds {
-        return Some(place);
-    }
-    None
-}
-
-// Of two bounds that don't rise, the call in which the second was written, or else the first.
-fn blamed(low: Bound, high: Bound) -> Option<usize>
-    ensures { result ≡ blamed low high }
-{
-    match (low, high) {
-        (Bound::Written(low), Bound::Written(high)) => some_where(
-            high.value < low.value,
-            high.call,
+        Some(value) => stands_above(
+            possible,
+            value,
+            word_at(call, place),
+            handed_at(call, place),
         ),
-        (Bound::Fixed(low), Bound::Written(high)) => some_where(high.value < low, high.call),
-        (Bound::Written(low), Bound::Fixed(high)) => some_where(high < low.value, low.call),
-        _ => None,
     }
 }
 
-fn blamed_of(ask: Option<RisingAsk>) -> Option<usize>
-    ensures { result ≡ blamed_of ask }
+// Whether a word that is written in a call isn't what is asked for.
+fn is_wrong<'a>(
+    known: &Known<'a>,
+    possible: &Possible<'a>,
+    call: &Call<'a>,
+    word: &'a [u8],
+    question: Question,
+) -> bool
+    ensures { result ≡ is_wrong (known_facts known.now) (known_may possible.now) (call_parts call.now) word.now question }
 {
-    let rising = ask?;
-    blamed(rising.low, rising.high)
-}
-
-// The call whose argument an ask at this call, which stands at a place, finds wrong.
-fn wrong_at<'a>(known: &Known<'a>, call: &Call<'a>, place: usize, ask: Ask) -> Option<usize>
-    ensures { result ≡ wrong_at (known_facts known.now) (call_parts call.now) place ask }
-{
-    match ask {
-        Ask::Number(ask) => some_where(is_out(call, ask), place),
-        Ask::Set(ask) => some_where(is_no_set(known, call, ask), place),
-        Ask::Plain(_) => None,
-        Ask::Rising(ask) => blamed_of(rising_up(call, place, ask)),
+    match question {
+        Question::Number(range) => is_out(range, word),
+        Question::Set(sort) => is_no_set(known, sort, word),
+        Question::NotBelow(place) => is_below(possible, call, place, word),
     }
 }
 
-fn bad_call(calls: &Calls<'_>, place: Option<usize>) -> Option<Fault>
-    ensures { result ≡ bad_call calls.now place }
+// The fault of a call with this argument, where it is asked this.
+fn word_fault<'a>(
+    known: &Known<'a>,
+    possible: &Possible<'a>,
+    call: &Call<'a>,
+    question: Question,
+    word: Option<&'a [u8]>,
+) -> Option<Fault>
+    ensures { result ≡ word_fault (known_facts known.now) (known_may possible.now) (call_parts call.now) question (option_map (λ w. w.now) word.entry) }
 {
-    match calls.get(place?) {
-        None => None,
-        Some(call) => Some((call.span, Cause::BadArgument)),
-    }
-}
-
-fn plain_fault<'a>(known: &Known<'a>, call: &Call<'a>, ask: PlainAsk) -> Option<Fault>
-    ensures { result ≡ elim (is_unplain (known_facts known.now) (word_at (call_parts call.now) ask.place)) [ true ↦ Some (record { start = ask.start; end = ask.end }, NotPlain) | false ↦ None ] }
-{
-    if is_unplain(known, call, ask) {
-        let start = ask.start;
-        let end = ask.end;
-        return Some((Span { start, end }, Cause::NotPlain));
+    let word = word?;
+    if is_wrong(known, possible, call, word, question) {
+        return Some((call.span, Cause::BadArgument));
     }
     None
 }
 
-fn asked_fault<'a>(
+fn argument_fault<'a>(
     known: &Known<'a>,
-    calls: &Calls<'a>,
-    call: &Call<'a>,
+    possible: &Possible<'a>,
+    argument: Handing<'_, 'a>,
+    question: Question,
+) -> Option<Fault>
+    ensures { result ≡ argument_fault (known_facts known.now) (known_policy known.now) (known_may possible.now) (handing_parts argument.entry) question }
+{
+    let call = argument.call;
+    if is_reached_policy(known, call.caller) {
+        let word = word_at(call, argument.place);
+        return word_fault(known, possible, call, question, word);
+    }
+    None
+}
+
+// The fault that a reached call has by what an argument of it is asked.
+fn given_fault<'a>(
+    known: &Known<'a>,
+    possible: &Possible<'a>,
+    arguments: &Arguments<'_, 'a>,
     demand: Demand,
 ) -> Option<Fault>
-    ensures { result ≡ asked_fault (known_facts known.now) calls.now (call_parts call.now) demand.call demand.ask }
+    ensures { result ≡ given_fault (known_facts known.now) (known_policy known.now) (known_may possible.now) arguments.now demand }
 {
-    match demand.ask {
-        Ask::Plain(ask) => plain_fault(known, call, ask),
-        Ask::Number(_) => bad_call(calls, wrong_at(known, call, demand.call, demand.ask)),
-        Ask::Set(_) => bad_call(calls, wrong_at(known, call, demand.call, demand.ask)),
-        Ask::Rising(_) => bad_call(calls, wrong_at(known, call, demand.call, demand.ask)),
-    }
+    let argument = arguments.get(demand.argument)?;
+    argument_fault(known, possible, argument, demand.question)
 }
 
-// The fault that a reached call has by what it is asked for.
-fn given_fault<'a>(known: &Known<'a>, calls: &Calls<'a>, demand: Demand) -> Option<Fault>
-    ensures { result ≡ given_fault (known_facts known.now) (known_policy known.now) calls.now demand }
-{
-    let Some(call) = calls.get(demand.call) else {
-        return None;
-    };
-    if is_reached_policy(known, call.caller) {
-        return asked_fault(known, calls, call, demand);
-    }
-    None
-}
-
-// The first fault by what calls are asked for.
-#[tactic(auto, unfolding(crate::specs::Faults::earliest_given))]
+// The first fault by what arguments are asked.
+#[tactic(auto, unfolding(crate::specs::Faults::earliest_of))]
 pub(crate) fn earliest_given<'a>(
     known: &Known<'a>,
-    calls: &Calls<'a>,
+    possible: &Possible<'a>,
+    arguments: &Arguments<'_, 'a>,
     demands: &[Demand],
 ) -> Option<Fault>
-    ensures { result ≡ earliest_given (known_facts known.now) (known_policy known.now) calls.now None demands.now }
+    ensures { result ≡ earliest_of (given_fault (known_facts known.now) (known_policy known.now) (known_may possible.now) arguments.now) None demands.now }
 {
     let mut found = None;
     let mut rest = demands;
     while let [first, tail @ ..] = rest {
-        found = earlier(found, given_fault(known, calls, *first));
+        found = earlier(found, given_fault(known, possible, arguments, *first));
+        rest = tail;
+    }
+    found
+}
+
+// The fault of a statement that sets the communities of what is handed to its policy.
+fn setting_fault<'a>(possible: &Possible<'a>, setting: Setting<'a>) -> Option<Fault>
+    ensures { result ≡ setting_fault (known_may possible.now) (setting_parts setting.entry) }
+{
+    let parameter = Parameter {
+        policy: setting.policy,
+        place: setting.place,
+    };
+    if may_be(possible, parameter, Fact::Wide) {
+        return Some((setting.span, Cause::NotPlain));
+    }
+    None
+}
+
+// The first fault of such statements, or this one.
+#[tactic(auto, unfolding(crate::specs::Faults::earliest_of))]
+pub(crate) fn earliest_setting<'a>(
+    possible: &Possible<'a>,
+    other: Option<Fault>,
+    settings: &[Setting<'a>],
+) -> Option<Fault>
+    ensures { result ≡ earliest_of (setting_fault (known_may possible.now)) other (settings_in settings.now) }
+{
+    let mut found = other;
+    let mut rest = settings;
+    while let [first, tail @ ..] = rest {
+        found = earlier(found, setting_fault(possible, *first));
         rest = tail;
     }
     found

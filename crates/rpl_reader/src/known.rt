@@ -5,7 +5,7 @@ ghost use Rattle.policy_calls.specs.Callees.{links_of};
 ghost use Rattle.rpl_calls.specs.Calls.{calls_of, links};
 ghost use Rattle.rpl_calls.specs.Said.{calls_in};
 ghost use Rattle.rpl_calls.specs.declared.demand.Demand.{Demand as SpecDemand};
-ghost use Rattle.rpl_reader.specs.Reach.{IsDemanded};
+ghost use Rattle.rpl_reader.specs.Reach.{arguments_in, IsDemanded};
 ghost use Rattle.policy_text.specs.NameSets.{has_name};
 ghost use Rattle.rpl_reader.specs.Known.{known_policy, known_block, IsKnown};
 ghost use Rattle.rpl_reader.specs.Holds.{HoldsSets, Holds};
@@ -15,7 +15,7 @@ use name_maps::NameMap;
 use policy_calls::{Call, PairSet, reached, too_deep, turning_back};
 use policy_text::{NameSet, has_name};
 use route_types::{Memory, Row};
-use rpl_calls::{Calls, Demand};
+use rpl_calls::{Arguments, Demand};
 use rpl_facts::{Count, blocks_of, counts_of, kind_code, statements_of, wide_sets};
 use rpl_forms::{BlockKind, RplItem};
 use std::alloc::Global;
@@ -79,16 +79,16 @@ fn sets_of<'a>(
     alloc: Global,
     items: &'a [RplItem],
     policies: &NameSet<'a>,
-    calls: &Calls<'a>,
+    arguments: &Arguments<'_, 'a>,
     demands: &[Demand],
 ) -> Result<NameSet<'a>, Memory>
-    ensures { IfOk result (λ sets. HoldsSets items.now (λ p. has_name policies.now p 0 0) calls.now demands.now sets) }
+    ensures { IfOk result (λ sets. HoldsSets items.now (λ p. has_name policies.now p 0 0) arguments.now demands.now sets) }
 {
     let statements = statements_of(alloc, items)?;
     let mut sets = BTreeSet::new(alloc);
     let spoken = statements.as_slice();
     note_named(alloc, &mut sets, policies, spoken)?;
-    note_all_given(&mut sets, policies, calls, demands)?;
+    note_all_given(&mut sets, policies, arguments, demands)?;
     Ok(sets)
 }
 
@@ -97,17 +97,17 @@ fn known_by<'a>(
     alloc: Global,
     policy: &'a [u8],
     items: &'a [RplItem],
-    calls: &Calls<'a>,
+    arguments: &Arguments<'_, 'a>,
     demands: &[Demand],
     by_name: &[Call<'a>],
 ) -> Result<Known<'a>, Memory>
-    ensures { IfOk result (λ k. Holds policy.now items.now calls.now demands.now (links_of by_name.now) k) }
+    ensures { IfOk result (λ k. Holds policy.now items.now arguments.now demands.now (links_of by_name.now) k) }
 {
     let names = [policy];
     let policies = reached(alloc, by_name, &names)?;
     let turning = turning_back(alloc, by_name)?;
     let deep = too_deep(alloc, by_name, &names, &policies, &turning)?;
-    let sets = sets_of(alloc, items, &policies, calls, demands)?;
+    let sets = sets_of(alloc, items, &policies, arguments, demands)?;
     let there = blocks_of(alloc, items)?;
     let wide = wide_sets(alloc, items)?;
     let counts = counts_of(alloc, items)?;
@@ -123,23 +123,24 @@ fn known_by<'a>(
     })
 }
 
-// What is known of the text for the policy of this name, by its calls and what these are asked for. Its one error is
-// want of memory.
+// What is known of the text for the policy of this name, by its calls, their arguments and what these are asked. Its one
+// error is want of memory.
 pub(crate) fn known_of<'a>(
     alloc: Global,
     policy: &'a [u8],
     items: &'a [RplItem],
-    calls: &Calls<'a>,
+    calls: &[rpl_calls::Call<'a>],
+    arguments: &Arguments<'_, 'a>,
     demands: &[Demand],
 ) -> Result<Known<'a>, Memory>
-    requires calls { calls.now ≡ calls_of items.now }
+    requires calls { calls_in calls.now ≡ calls_of items.now }
+    requires arguments { arguments.now ≡ arguments_in items.now }
     requires sound { (d : SpecDemand) → IsIn d demands.now → IsDemanded items.now d }
     requires whole { (d : SpecDemand) → IsDemanded items.now d → IsIn d demands.now }
     ensures { IfOk result (λ k. IsKnown policy.now items.now k) }
 {
-    let found = calls.as_slice();
-    let row = links_of(alloc, found)?;
+    let row = links_of(alloc, calls)?;
     let by_name = row.as_slice();
-    let known = known_by(alloc, policy, items, calls, demands, by_name)?;
+    let known = known_by(alloc, policy, items, arguments, demands, by_name)?;
     Ok(known)
 }

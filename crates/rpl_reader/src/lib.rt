@@ -13,6 +13,7 @@ mod given;
 mod items;
 mod known;
 mod laws;
+mod possible;
 mod sets;
 mod state;
 

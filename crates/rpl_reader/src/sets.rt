@@ -2,7 +2,8 @@
 ghost use Rattle.std.specs.Prelude.{◌≡◌, ◌||◌, ◌&&◌, ◌∷◌, ℕ, List, IfOk, OnOk, slice_get, option_map};
 ghost use Rattle.std.specs.List.{list_any};
 ghost use Rattle.policy_text.specs.NameSets.{has_name};
-ghost use Rattle.rpl_calls.specs.Said.{call_parts};
+ghost use Rattle.rpl_calls.specs.Arguments.{written};
+ghost use Rattle.rpl_calls.specs.Listed.{handing_parts};
 ghost use Rattle.rpl_calls.specs.declared.ask.SetSort.{SetSort as SpecSort};
 ghost use Rattle.rpl_facts.specs.Blocks.{block_of};
 ghost use Rattle.rpl_facts.specs.Used.{use_of, uses_in};
@@ -11,7 +12,7 @@ ghost use Rattle.rpl_reader.specs.Sets.{names, uses_named, is_written, is_given_
 
 use policy_text::{NameSet, add_name, has_name};
 use route_types::{Memory, Row};
-use rpl_calls::{Ask, Call, Calls, Demand, SetSort, name_under, word_at};
+use rpl_calls::{Arguments, Demand, Handing, Question, SetSort, name_under, word_at};
 use rpl_facts::{Spoken, Used, kind_code, push_uses};
 use rpl_forms::BlockKind;
 use std::alloc::Global;
@@ -83,48 +84,52 @@ pub(crate) fn note_named<'a>(
 // ---- sets that are handed on
 
 // Notes the set whose name is written where a set is asked for.
-fn note_written<'a>(sets: &mut NameSet<'a>, call: &Call<'a>, ask: Ask) -> Result<(), Memory>
-    ensures { OnOk result ((q : List ℕ) (s n : ℕ) → has_name sets.new q s n ≡ (is_written q s n (call_parts call.now) ask || has_name sets.old q s n)) }
+fn note_written<'a>(
+    sets: &mut NameSet<'a>,
+    argument: Handing<'_, 'a>,
+    question: Question,
+) -> Result<(), Memory>
+    ensures { OnOk result ((q : List ℕ) (s n : ℕ) → has_name sets.new q s n ≡ (is_written q s n (written (handing_parts argument.entry)) question || has_name sets.old q s n)) }
 {
-    let Ask::Set(ask) = ask else {
+    let Question::Set(sort) = question else {
         return Ok(());
     };
-    match word_at(call, ask.place) {
+    match word_at(argument.call, argument.place) {
         None => Ok(()),
-        Some(name) => add_name(sets, name, kind_code(block_of(ask.sort)), 0),
+        Some(name) => add_name(sets, name, kind_code(block_of(sort)), 0),
     }
 }
 
-// Notes the set that a reached call is asked for, if its name is written there.
+// Notes the set that an argument of a reached policy is asked for, if its name is written there.
 fn note_given<'a>(
     sets: &mut NameSet<'a>,
     reached: &NameSet<'a>,
-    calls: &Calls<'a>,
+    arguments: &Arguments<'_, 'a>,
     demand: Demand,
 ) -> Result<(), Memory>
-    ensures { OnOk result ((q : List ℕ) (s n : ℕ) → has_name sets.new q s n ≡ (gives (λ p. has_name reached.now p 0 0) calls.now q s n demand || has_name sets.old q s n)) }
+    ensures { OnOk result ((q : List ℕ) (s n : ℕ) → has_name sets.new q s n ≡ (gives (λ p. has_name reached.now p 0 0) arguments.now q s n demand || has_name sets.old q s n)) }
 {
-    let Some(call) = calls.get(demand.call) else {
+    let Some(argument) = arguments.get(demand.argument) else {
         return Ok(());
     };
-    if !has_name(reached, call.caller, 0, 0) {
+    if !has_name(reached, argument.call.caller, 0, 0) {
         return Ok(());
     }
-    note_written(sets, call, demand.ask)
+    note_written(sets, argument, demand.question)
 }
 
 // Notes the sets that are handed to reached policies.
 pub(crate) fn note_all_given<'a>(
     sets: &mut NameSet<'a>,
     reached: &NameSet<'a>,
-    calls: &Calls<'a>,
+    arguments: &Arguments<'_, 'a>,
     demands: &[Demand],
 ) -> Result<(), Memory>
-    ensures { OnOk result ((q : List ℕ) (s n : ℕ) → has_name sets.new q s n ≡ (list_any (gives (λ p. has_name reached.now p 0 0) calls.now q s n) demands.now || has_name sets.old q s n)) }
+    ensures { OnOk result ((q : List ℕ) (s n : ℕ) → has_name sets.new q s n ≡ (list_any (gives (λ p. has_name reached.now p 0 0) arguments.now q s n) demands.now || has_name sets.old q s n)) }
 {
     let mut rest = demands;
     while let [first, tail @ ..] = rest {
-        note_given(sets, reached, calls, *first)?;
+        note_given(sets, reached, arguments, *first)?;
         rest = tail;
     }
     Ok(())

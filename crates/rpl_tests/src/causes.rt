@@ -59,7 +59,7 @@ fn names(rt: HostRuntime) -> Result<(), Fail> {
 }
 
 /// Blocks, the statements of the policy P behind them, and what is found of P.
-const CASES: [(&str, &str, &str); 56] = [
+const CASES: [(&str, &str, &str); 64] = [
     // A statement of no form, in P or in a policy that P leads to.
     ("", "pass foo", "2:1 unknown-form"),
     ("", "pass", ""),
@@ -220,6 +220,39 @@ const CASES: [(&str, &str, &str); 56] = [
         "apply Q(65535)",
         "",
     ),
+    // Each call of a policy is asked.
+    (
+        "route-policy Q($a)\nset weight $a\nend-policy\n",
+        "apply Q(65536)\napply Q(65535)",
+        "5:1 bad-argument",
+    ),
+    (
+        "route-policy Q($a)\nset weight $a\nend-policy\n",
+        "apply Q(65535)\napply Q(65536)",
+        "6:1 bad-argument",
+    ),
+    // Communities of a set that isn't plain are set by what is handed on; another parameter may be such a set.
+    (
+        "community-set W\n[1..2]:3\nend-set\nroute-policy R($x, $y)\nset community $x\nset community $y\nend-policy\nroute-policy Q($a, $b)\napply R($b, $a)\nend-policy\ncommunity-set S\n1:3\nend-set\n",
+        "apply Q(W, S)",
+        "6:1 not-plain",
+    ),
+    (
+        "community-set W\n[1..2]:3\nend-set\nroute-policy R($x, $y)\nset community $x\nset community $y\nend-policy\nroute-policy Q($a, $b)\napply R($b, $a)\nend-policy\ncommunity-set S\n1:3\nend-set\n",
+        "apply Q(S, W)",
+        "5:1 not-plain",
+    ),
+    (
+        "community-set W\n[1..2]:3\nend-set\nroute-policy R($x, $y)\nset community $x\ndelete community in $y\nend-policy\nroute-policy Q($a, $b)\napply R($b, $a)\nend-policy\ncommunity-set S\n1:3\nend-set\n",
+        "apply Q(W, S)",
+        "",
+    ),
+    // What a policy hands on that isn't reached is not looked at.
+    (
+        "community-set W\n[1..2]:3\nend-set\nroute-policy R($x)\nset community $x\nend-policy\nroute-policy U\napply R(W)\nend-policy\ncommunity-set S\n1:3\nend-set\n",
+        "apply R(S)",
+        "",
+    ),
     // A name of no set of the sort; what isn't used may be anything.
     (
         "route-policy Q($a)\nif destination in $a then drop endif\nend-policy\n",
@@ -257,6 +290,16 @@ const CASES: [(&str, &str, &str); 56] = [
         "route-policy Q($a, $b)\nif destination in (10.0.0.0/8 ge $a le $b) then drop endif\nend-policy\nroute-policy R($a)\napply Q($a, 19)\nend-policy\n",
         "apply R(20)",
         "5:1 bad-argument",
+    ),
+    (
+        "route-policy Q($a, $b)\nif destination in (10.0.0.0/8 ge $a le $b) then drop endif\nend-policy\nroute-policy R($a)\napply Q($a, 19)\nend-policy\nroute-policy T($a)\napply R($a)\nend-policy\n",
+        "apply T(19) apply T(20)",
+        "5:1 bad-argument",
+    ),
+    (
+        "route-policy Q($a, $b)\nif destination in (10.0.0.0/8 ge $a le $b) then drop endif\nend-policy\nroute-policy R($a)\napply Q($a, 19)\nend-policy\nroute-policy T($a)\napply R($a)\nend-policy\n",
+        "apply T(19) apply T(18)",
+        "",
     ),
     (
         "route-policy Q($a)\nif destination in (10.0.0.0/8 ge $a le 20) then drop endif\nend-policy\n",

@@ -10,4 +10,4 @@ pub returns-in_default-policy : goal.returns-in_default-policy
 returns-in_default-policy c = λ all rest saying. passed all rest c.args.item.now c.args.said.now c.args.policy (sym c.opens.ensures ∙ nothing_left c.opens.result c.in_default.not-Some) (nothing_left c.args.policy c.in_default-policy.not-Some) saying
 
 pub returns : goal.returns
-returns c = λ all rest saying. more all rest c.args.item.now c.args.said.now _ c.args.policy c.in-Some-policy.open (sym c.opens.ensures ∙ nothing_left c.opens.result c.in_default.not-Some) c.in-Some-policy.is c.in_ok-push_call.ensures c.in_ok-push_own.ensures saying
+returns c = λ all rest saying. more all rest c.args.item.now c.args.said.now _ c.args.policy c.in-Some-policy.open (sym c.opens.ensures ∙ nothing_left c.opens.result c.in_default.not-Some) c.in-Some-policy.is c.in_ok-push_call.ensures c.in_ok-push_own.ensures c.in_ok-push_setting.ensures saying
