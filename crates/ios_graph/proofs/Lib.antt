@@ -1,4 +1,5 @@
 mod Halving
 mod Runs
+mod Apart
 mod Lowered
 mod Examples

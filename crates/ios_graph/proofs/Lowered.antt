@@ -3,7 +3,7 @@ use Rattle.std.proofs.Common.{◌≡◌, refl, sym, ap, subst, ◌∙◌, ℕ, �
 use Rattle.std.specs.Prelude.{Vec, unwrap_or}
 use Rattle.std.specs.List.{list_all, AllByRecursion}
 use Rattle.std.specs.declared.alloc.Global.{Global}
-use Rattle.std.proofs.lemmas.Bool.{true≢false}
+use Rattle.std.proofs.lemmas.Bool.{and_parts, true≢false}
 use Rattle.std.proofs.lemmas.List.{append-nil}
 use Rattle.route_types.specs.Route.{RouteParts}
 use Rattle.route_types.specs.declared.change.Change.{Change}
@@ -18,6 +18,8 @@ use Rattle.core_nodes.specs.Outcome.{outcome_at}
 use Rattle.core_nodes.specs.declared.atom.Atom.{Atom}
 use Rattle.core_nodes.specs.declared.node.NodeKind.{NodeKind}
 use Rattle.core_nodes.specs.declared.node.NodeKind.TheVariants.{Test, Do, Stop}
+use Rattle.policy_core.specs.Apart.{Touched, untouched, apart_at}
+use Rattle.policy_core.proofs.ApartLaws.{apart_grown, stop_apart}
 use Rattle.ios_tree.specs.declared.item.IosItem.{IosItem}
 use Rattle.ios_reader.specs.Entries.{Entry, entries_of}
 use Rattle.ios_reader.specs.Profile.{all_forms, InProfile}
@@ -29,19 +31,22 @@ use Rattle.ios_readings.proofs.Agree.{ordered_ascends}
 use Rattle.ios_readings.proofs.AtOnce.{means_at_once}
 use Rattle.ios_lower.specs.Atoms.{atom_of, atoms_of}
 use Rattle.ios_lower.specs.Changes.{IsChangeOf}
-use Rattle.ios_lower.specs.ChangeSteps.{IsTestable, AreOfEntry}
-use Rattle.ios_lower.specs.Chains.{IsTestOf, IsActOf, Tests, Acts}
+use Rattle.ios_lower.specs.ChangeSteps.{IsTestable, IsOfLines, AreOfEntry}
+use Rattle.ios_lower.specs.Chains.{IsTestOf, IsActOf, are_apart, Tests, Acts}
 use Rattle.ios_lower.specs.Grows.{Grows}
 use Rattle.ios_lower.specs.OfPolicy.{IsOfEntries, IsOfPolicy}
 use Rattle.ios_lower.proofs.ChainLaws.{keeps_none, keeps_both}
 use Rattle.ios_lower.proofs.Grows.{all_wider, grows_none, grows_one, grows_both, grows_wider, all_grown}
-use Rattle.ios_lower.proofs.Lowered.{test_says, act_says, order_says, testable}
+use Rattle.ios_lower.proofs.Lowered.{one_of_all, test_says, act_says, order_says, testable}
+use Rattle.ios_lower.proofs.Runs.{lines_continue}
 use Rattle.ios_lower.proofs.Said.{policy_said}
+use Rattle.ios_graph.specs.Apart.{entry_apart, entries_apart, EachStaysApart, AreRowsApart}
 use Rattle.ios_graph.specs.Rows.{node_from, node_behind, Falls, HasMore}
 use Rattle.ios_graph.specs.Runs.{given_behind, given_by, AreRising}
 use Rattle.ios_graph.specs.Lowered.{AreWithin, AreRows, IsBody, IsTested, AreLowered, IsPolicyNode}
 use Rattle.ios_graph.specs.declared.rows.Rows.{Rows}
 use Rattle.ios_graph.specs.declared.rows.Target.{Target}
+use Rattle.ios_graph.proofs.Apart.{entries_untouched, policy_stays}
 use Rattle.ios_graph.proofs.Halving.{node_pushed, falls_pushed}
 use Rattle.ios_graph.proofs.Runs.{rising_of, rising_behind, at_least, entry_runs, from_first}
 
@@ -72,6 +77,7 @@ body_denies all e rows nodes w d =
       keeps = keeps_none nodes;
       answers = λ r h. sym (if_denies (outcome_at nodes (node_behind rows (continuation_of e.lines)) (set_by_entry all e r)) (outcome_at nodes rows.rejected r) e.permit d);
       stays = λ r h p. absurd (true≢false (sym p ∙ d));
+      apart = λ test kept onwards ends t passes. ends t;
     }
 
 -- an entry that permits makes its changes and goes on
@@ -85,6 +91,8 @@ body_permits all e rows old new cs behind n p same o t =
       answers = λ r h. t.answers r ∙ ap (λ (q : RouteParts). outcome_at old behind q) (o.acts r h) ∙ ap (λ (m : ℕ). outcome_at old m (set_by_entry all e r)) same
           ∙ sym (if_permits (outcome_at old (node_behind rows (continuation_of e.lines)) (set_by_entry all e r)) (outcome_at old rows.rejected r) e.permit p);
       stays = λ r h k. subst IsTestable (o.acts r h) (o.keeps r h);
+      apart = λ test kept onwards ends.
+          t.apart test (λ c own. kept c (one_of_all (IsOfLines all e.lines) c cs o.own own)) (λ u passes. ap (λ (m : ℕ). apart_at old m u) same ∙ onwards u passes);
     }
 
 -- the tests of an entry
@@ -96,6 +104,7 @@ entry_tested all e old new atoms body other n same holds t =
       grows = grows_wider (IsTestOf atoms) (IsOfEntries all (e ∷ [])) old new (λ k h. test_says all e k (subst (λ (bs : List Atom). IsTestOf bs k) same h)) t.grows;
       keeps = t.keeps;
       answers = λ r h. t.answers r ∙ ap (λ (x : Bool). elim x [ true ↦ outcome_at old body r | false ↦ outcome_at old other r ]) (holds r h.path);
+      apart = λ u h. t.apart u (ap (λ (bs : List Atom). are_apart bs u) same ∙ h);
     }
 
 -- ---- one more entry
@@ -180,6 +189,45 @@ module _ (all : List IosItem) (e : Entry) (es : List Entry) (before after : Rows
         falls = subst Falls (sym more.some_held) (falls_pushed before.some_held.items (record { number = e.number; node = some }) rows.within.falls (rows.above e.number (at_least e.number es rising.0)));
       }
 
+  -- what the body asks for
+  body_apart : EachStaysApart all (e ∷ es) → (t : Touched) → entries_apart all es t ≡ true → apart_at c1 body t ≡ true
+  body_apart each u h = by (continuation_of e.lines) refl
+    where
+      by : (next : Option (Option ℕ)) → continuation_of e.lines ≡ next → apart_at c1 body u ≡ true
+      by None goes =
+          b.apart (λ t. true) (λ c own t passes. refl) (λ t passes. ap (λ (o : Option (Option ℕ)). apart_at c0 (node_behind before o) t) goes ∙ rows.apart.accepted t) rows.apart.rejected u refl
+      by (Some target) goes =
+          b.apart (entries_apart all es) (each.0 (lines_continue e.lines target goes))
+          (λ t passes. ap (λ (o : Option (Option ℕ)). apart_at c0 (node_behind before o) t) goes ∙ rows.apart.some_held each.1 (unwrap_or target 0) t passes)
+          rows.apart.rejected u h
+
+  none_apart : EachStaysApart all (e ∷ es) → (t : Touched) → entries_apart all (e ∷ es) t ≡ true → apart_at c3 after.none_held t ≡ true
+  none_apart each v h =
+      let parts = and_parts (entry_apart all v e) (entries_apart all es v) h in
+      ap (λ (m : ℕ). apart_at c3 m v) more.none_held ∙ apart_grown c2 c3 none v u.keeps t.within
+      ∙ t.apart v parts.0 (body_apart each v parts.1) (apart_grown c0 c1 before.none_held v b.keeps rows.within.none_held ∙ rows.apart.none_held each.1 v parts.1)
+
+  some_apart : EachStaysApart all (e ∷ es) → (t : Touched) → entries_apart all (e ∷ es) t ≡ true → apart_at c3 some t ≡ true
+  some_apart each v h =
+      let parts = and_parts (entry_apart all v e) (entries_apart all es v) h in
+      u.apart v parts.0 (apart_grown c1 c2 body v t.keeps b.within ∙ body_apart each v parts.1)
+      (apart_grown c0 c2 (node_from 0 before.accepted before.some_held.items) v (keeps_both c0 c1 c2 b.keeps t.keeps) (rows.within.some_held 0) ∙ rows.apart.some_held each.1 0 v parts.1)
+
+  -- x: the entry has the number or a greater one
+  apart_by : (n : ℕ) (x : Bool) → EachStaysApart all (e ∷ es) → (t : Touched) → entries_apart all (e ∷ es) t ≡ true → apart_at c3 (elim x [ true ↦ some | false ↦ node_from n before.accepted before.some_held.items ]) t ≡ true
+  apart_by n true each v h = some_apart each v h
+  apart_by n false each v h =
+      apart_grown c0 c3 (node_from n before.accepted before.some_held.items) v keeps_all (rows.within.some_held n) ∙ rows.apart.some_held each.1 n v (and_parts (entry_apart all v e) (entries_apart all es v) h).1
+
+  rows_apart : AreRowsApart all (e ∷ es) c3 after
+  rows_apart =
+      record {
+        accepted = λ v. ap (λ (m : ℕ). apart_at c3 m v) more.accepted ∙ apart_grown c0 c3 before.accepted v keeps_all rows.within.accepted ∙ rows.apart.accepted v;
+        rejected = λ v. ap (λ (m : ℕ). apart_at c3 m v) more.rejected ∙ apart_grown c0 c3 before.rejected v keeps_all rows.within.rejected ∙ rows.apart.rejected v;
+        none_held = none_apart;
+        some_held = λ each n v h. ap (λ (m : ℕ). apart_at c3 m v) (pushed n) ∙ apart_by n (nat_le n e.number) each v h;
+      }
+
   rows_more : AreRows all (e ∷ es) c3 after
   rows_more =
       record {
@@ -189,6 +237,7 @@ module _ (all : List IosItem) (e : Entry) (es : List Entry) (before after : Rows
         none_held = none_gives;
         some_held = λ n r h. ap (λ (m : ℕ). outcome_at c3 m r) (pushed n) ∙ gives_by n r h (nat_le n e.number);
         above = above_all;
+        apart = rows_apart;
       }
 
   grown : Grows (IsOfEntries all (e ∷ [])) c0 c3
@@ -218,6 +267,9 @@ unfolding run_at_once
 lowered_none all es old now new rejected accepted held e none m n k =
     let rejects : (r : RouteParts) → outcome_at new rejected r ≡ Reject = λ r. k.answers rejected m.at.within r ∙ m.answers r in
     let node : (i : ℕ) → node_from i accepted held.items ≡ accepted = λ i. ap (λ (ts : List Target). node_from i accepted ts) none in
+    let accepts_apart : (t : Touched) → apart_at new accepted t ≡ true = λ t. stop_apart new accepted true t (record { facts = n.facts; there = n.at.there }) in
+    let rejects_apart : (t : Touched) → apart_at new rejected t ≡ true =
+    λ t. apart_grown now new rejected t k m.at.within ∙ stop_apart now rejected false t (record { facts = m.facts; there = m.at.there }) in
     record {
       behind = [];
       parts = sym (append-nil es);
@@ -237,6 +289,12 @@ lowered_none all es old now new rejected accepted held e none m n k =
         none_held = λ r h. rejects r;
         some_held = λ i r h. ap (λ (p : ℕ). outcome_at new p r) (node i) ∙ n.answers r;
         above = λ i h. subst (λ (ts : List Target). AllByRecursion (λ t. i ≤ t.number) ts) (sym none) tt;
+        apart = record {
+          accepted = accepts_apart;
+          rejected = rejects_apart;
+          none_held = λ each t h. rejects_apart t;
+          some_held = λ each i t h. ap (λ (p : ℕ). apart_at new p t) (node i) ∙ accepts_apart t;
+        };
       };
     }
 
@@ -250,10 +308,12 @@ policy_rises all name es p e = subst AreRising (sym e) (rising_of (in_order (λ 
 pub policy_node : (all : List IosItem) (name : List ℕ) (es : List Entry) (nodes : List NodeKind) (rows : Rows) → InProfile name all → es ≡ in_order (λ e. e.number) (entries_of name all) → AreLowered all es [] nodes rows → AreNodes nodes
     → IsPolicyNode all name nodes rows.none_held
 policy_node all name es nodes rows p e t are =
+    let behind : es ≡ t.behind = t.parts in
     let own : AllByRecursion (IsOfPolicy all name) nodes =
     all_wider (IsOfEntries all es) (IsOfPolicy all name) nodes (λ k h. order_says all (λ (x : Entry). x.number) (entries_of name all) k (subst (λ (xs : List Entry). IsOfEntries all xs k) e h)) t.says in
     record {
       of_core = t.right.within.none_held;
+      apart = t.right.apart.none_held (policy_stays all name t.behind p (sym behind ∙ e)) untouched (entries_untouched all t.behind);
       says = own;
       said = policy_said all name nodes rows.none_held are t.right.within.none_held own;
       meaning = λ r h. t.right.none_held r (testable r h) ∙ ap (λ (xs : List Entry). run_at_once all false 0 xs r) (sym t.parts ∙ e) ∙ means_at_once all name p r;

@@ -6,6 +6,7 @@ ghost use Rattle.route_types.specs.Route.{RouteParts, InRange};
 ghost use Rattle.route_types.specs.declared.change.Change.{Change};
 ghost use Rattle.core_nodes.specs.Outcome.{outcome_at};
 ghost use Rattle.core_nodes.specs.declared.atom.Atom.{Atom};
+ghost use Rattle.policy_core.specs.Apart.{untouched, apart_at};
 ghost use Rattle.policy_core.specs.Guards.{said_at};
 ghost use Rattle.policy_core.specs.Settled.{IsSettled};
 ghost use Rattle.ios_reader.specs.Entries.{Entry};
@@ -33,11 +34,14 @@ use std::alloc::Global;
 /// always among the nodes of the first sort; so tests may stand behind changes. A policy without a `continue` line has
 /// the second sort alone, and no test behind a change. The one error is want of memory. The time is near-linear in the
 /// lines of the policy and the entries of the lists that they name.
+#[tactic(auto, using(policy_core::proofs::ApartLaws::settled_apart))]
 pub fn lower_ios(alloc: Global, policy: &CheckedIos) -> Result<(Core, Node), Memory>
     // The node is one of the graph's.
     ensures of_core { IfOk result (λ p. p.1 < length p.0) }
     // Where the policy has no `continue` line, no test follows a change.
     ensures settled { IfOk result (λ p. has_continue policy.now.items (name_of policy.now) ≡ false → IsSettled p.0 p.1) }
+    // No path test follows a prepend, and no community test a change of the communities.
+    ensures apart { IfOk result (λ p. apart_at p.0 p.1 untouched ≡ true) }
     // Each node tests and changes what the policy does.
     ensures says { IfOk result (λ p. AllByRecursion (IsOfPolicy policy.now.items (name_of policy.now)) p.0) }
     // What all tests and changes of the policy pass, those from the node on pass.

@@ -1,6 +1,7 @@
 -- One more node before those that test atoms or make changes.
 use Rattle.std.proofs.Common.{◌≡◌, refl, sym, ap, ◌∙◌, ℕ, ◌<◌, Bool, true, false, cond, ◌&&◌, List, [], ◌∷◌, ◌++◌, append_assoc, length, inl, inr}
 use Rattle.std.specs.List.{list_all}
+use Rattle.std.proofs.lemmas.Bool.{and_parts}
 use Rattle.std.proofs.lemmas.List.Folds.{list_all-append}
 use Rattle.route_types.specs.Change.{changed_by}
 use Rattle.route_types.specs.Route.{RouteParts}
@@ -13,8 +14,10 @@ use Rattle.core_nodes.specs.Outcome.{outcome_at}
 use Rattle.core_nodes.specs.declared.atom.Atom.{Atom}
 use Rattle.core_nodes.specs.declared.node.NodeKind.{NodeKind}
 use Rattle.core_nodes.specs.declared.node.NodeKind.TheVariants.{Test, Do}
+use Rattle.policy_core.specs.Apart.{Touched, touched_by, is_apart, apart_at}
+use Rattle.policy_core.proofs.ApartLaws.{apart_grown, test_apart, act_apart}
 use Rattle.policy_core.proofs.SettledLaws.{settled_grown, untested_grown, test_settled, act_untested, act_settled}
-use Rattle.ios_lower.specs.Chains.{IsTestOf, IsActOf, Tests, Acts}
+use Rattle.ios_lower.specs.Chains.{IsTestOf, IsActOf, are_apart, AreKept, Tests, Acts}
 use Rattle.ios_lower.proofs.ChangeLaws.{changed_both}
 use Rattle.ios_lower.proofs.Grows.{grows_none, grows_one}
 
@@ -56,8 +59,14 @@ branch_by one node other then next out true true e f m = m ∙ e
 branch_by one node other then next out true false e f m = m ∙ f
 branch_by one node other then next out false h e f m = refl
 
+-- an atom of the list asks for nothing that was touched
+one_apart : (t : Touched) (a : Atom) (atoms : List Atom) → are_apart atoms t ≡ true → SomeOf (λ b. a ≡ b) atoms → is_apart a t ≡ true
+one_apart t a [] h k = absurd k
+one_apart t a (b ∷ atoms) h (inl e) = ap (λ (x : Atom). is_apart x t) e ∙ (and_parts (is_apart b t) (are_apart atoms t) h).0
+one_apart t a (b ∷ atoms) h (inr k) = one_apart t a atoms (and_parts (is_apart b t) (are_apart atoms t) h).1 k
+
 pub tests_none : (old : List NodeKind) (atoms : List Atom) (then other : ℕ) → then < length old → Tests old old atoms atoms then other then
-tests_none old atoms then other h = record { within = h; grows = grows_none (IsTestOf atoms) old; keeps = keeps_none old; answers = λ r. refl; settled = λ x y. x; among = λ a k. k }
+tests_none old atoms then other h = record { within = h; grows = grows_none (IsTestOf atoms) old; keeps = keeps_none old; answers = λ r. refl; settled = λ x y. x; apart = λ t h x y. x; among = λ a k. k }
 
 -- the last atom that is left is tested before the node
 pub tests_more : (old now new : List NodeKind) (atoms left : List Atom) (a : Atom) (then other n p : ℕ) → other < length old → Tests old now atoms (left ++ a ∷ []) then other n → IsMade now new (Test a n other) p → Keeps now new → Tests old new atoms left then other p
@@ -71,13 +80,16 @@ tests_more old now new atoms left a then other n p o t m k =
           ∙ ap (λ (b : Bool). elim b [ true ↦ outcome_at now n r | false ↦ outcome_at old other r ]) (sym (list_all-append (λ b. atom_holds b r) left (a ∷ [])))
           ∙ t.answers r;
       settled = λ x y. test_settled new p n other a (record { facts = m.facts; there = m.at.there }) (settled_grown now new n k t.within (t.settled x y)) (settled_grown now new other k (t.keeps.longer other o) (settled_grown old now other t.keeps o y));
+      apart = λ u h x y.
+          test_apart new p n other a u (record { facts = m.facts; there = m.at.there }) (one_apart u a atoms h (t.among a (last_in (λ b. a ≡ b) left a refl)))
+          (apart_grown now new n u k t.within ∙ t.apart u h x y) (apart_grown now new other u k (t.keeps.longer other o) ∙ apart_grown old now other u t.keeps o ∙ y);
       among = λ b h. t.among b (front_in (λ c. b ≡ c) left (a ∷ []) h);
     }
 
 -- ---- changes
 
 pub acts_none : (old : List NodeKind) (changes : List Change) (next : ℕ) → next < length old → Acts old old changes changes next next
-acts_none old changes next h = record { within = h; grows = grows_none (IsActOf changes) old; keeps = keeps_none old; answers = λ r. refl; untested = λ x. x; settled = λ x y. y; among = λ c k. k }
+acts_none old changes next h = record { within = h; grows = grows_none (IsActOf changes) old; keeps = keeps_none old; answers = λ r. refl; untested = λ x. x; settled = λ x y. y; apart = λ test kept h t passes. h t passes; among = λ c k. k }
 
 -- the last change that is left is made before the node
 pub acts_more : (old now new : List NodeKind) (changes left : List Change) (c : Change) (next n p : ℕ) → Acts old now changes (left ++ c ∷ []) next n → IsMade now new (Do c n) p → Keeps now new → Acts old new changes left next p
@@ -89,5 +101,8 @@ acts_more old now new changes left c next n p t m k =
       answers = λ r. m.answers (changed_by left r) ∙ ap (λ (q : RouteParts). outcome_at now n q) (sym (changed_both left (c ∷ []) r)) ∙ t.answers r;
       untested = λ x. act_untested new p n c (record { facts = m.facts; there = m.at.there }) (untested_grown now new n k t.within (t.untested x));
       settled = λ x y. act_settled new p n c (record { facts = m.facts; there = m.at.there }) (untested_grown now new n k t.within (t.untested x));
+      apart = λ test kept h u passes.
+          act_apart new p n c u (record { facts = m.facts; there = m.at.there })
+          (apart_grown now new n (touched_by c u) k t.within ∙ t.apart test kept h (touched_by c u) (kept c (t.among c (last_in (λ d. c ≡ d) left c refl)) u passes));
       among = λ d h. t.among d (front_in (λ e. d ≡ e) left (c ∷ []) h);
     }

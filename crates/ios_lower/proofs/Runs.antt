@@ -27,6 +27,15 @@ lines_end (l ∷ ls) e =
     let parts = or_parts (continues l) (list_any continues ls) e in
     line_ends l (continuation_of ls) parts.0 ∙ lines_end ls parts.1
 
+-- b: a line continues
+continues_by : (ls : List MapLine) (b : Bool) (target : Option ℕ) → list_any continues ls ≡ b → continuation_of ls ≡ Some target → b ≡ true
+continues_by ls true target e c = refl
+continues_by ls false target e c = let none = lines_end ls e in absurd cc
+
+-- lines behind which the run goes on continue
+pub lines_continue : (ls : List MapLine) (target : Option ℕ) → continuation_of ls ≡ Some target → list_any continues ls ≡ true
+lines_continue ls target c = continues_by ls (list_any continues ls) target refl c
+
 -- ---- the run
 
 -- what an entry that holds makes of the run, by where it goes on

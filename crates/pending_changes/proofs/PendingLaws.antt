@@ -1,5 +1,5 @@
 -- One more change behind what is pending: what is left of a route, and what is said.
-use Rattle.std.proofs.Common.{◌≡◌, refl, sym, ap, subst, ◌∙◌, ℕ, Bool, true, List, [], ◌∷◌, Some, None}
+use Rattle.std.proofs.Common.{◌≡◌, refl, sym, ap, subst, ◌∙◌, ℕ, Bool, true, List, [], ◌∷◌, Some, None, true≢false}
 use Rattle.std.specs.List.{list_all}
 use Rattle.std.proofs.lemmas.Bool.{and_from}
 use Rattle.route_types.specs.Route.{RouteParts}
@@ -12,7 +12,7 @@ use Rattle.route_types.specs.declared.route.Origin.{Origin}
 use Rattle.route_types.specs.declared.change.Change.{Change}
 use Rattle.route_types.specs.declared.change.Change.TheVariants.{NextHop as SetNextHop, Prepend, Origin as SetOrigin, LocalPreference, Med, Weight, Communities}
 use Rattle.community_cuts.specs.Earlier.{behind}
-use Rattle.pending_changes.specs.Pending.{communities_behind, route_behind, PendingSays}
+use Rattle.pending_changes.specs.Pending.{communities_behind, route_behind, PendingSays, LeavesApart, LeavesAll}
 use Rattle.pending_changes.specs.declared.pending.Pending.{Pending}
 
 abbrev nothing : List ℕ → Pending
@@ -95,3 +95,29 @@ module _ (on_value : Change → Bool) (on_rect : RectParts → Bool) where
   change_says_too p q both e s v =
       subst (λ (x : Pending). PendingSays on_value on_rect x) (sym e)
       (record { local_preference = s.local_preference; med = s.med; weight = s.weight; origin = s.origin; next_hop = s.next_hop; prepended = s.prepended; communities = v })
+
+-- ---- what is left as it was
+
+pub none_apart : (path : List ℕ) → path ≡ [] → LeavesAll (nothing path)
+none_apart path e = record { path = e; communities = refl }
+
+pub next_hop_apart : (p q : Pending) (h : NextHop) → q ≡ record p { next_hop = Some h } → LeavesApart (SetNextHop h) p q
+next_hop_apart p q h e = record { path = λ x. ap (λ (y : Pending). y.prepended) e; communities = λ x. ap (λ (y : Pending). y.communities) e }
+
+pub number_apart : (p q : Pending) (n : ℕ) → q ≡ record p { prepended = n ∷ p.prepended } → LeavesApart (Prepend n) p q
+number_apart p q n e = record { path = λ x. absurd (true≢false x); communities = λ x. ap (λ (y : Pending). y.communities) e }
+
+pub origin_apart : (p q : Pending) (o : Origin) → q ≡ record p { origin = Some o } → LeavesApart (SetOrigin o) p q
+origin_apart p q o e = record { path = λ x. ap (λ (y : Pending). y.prepended) e; communities = λ x. ap (λ (y : Pending). y.communities) e }
+
+pub preference_apart : (p q : Pending) (n : ℕ) → q ≡ record p { local_preference = Some n } → LeavesApart (LocalPreference n) p q
+preference_apart p q n e = record { path = λ x. ap (λ (y : Pending). y.prepended) e; communities = λ x. ap (λ (y : Pending). y.communities) e }
+
+pub med_apart : (p q : Pending) (n : ℕ) → q ≡ record p { med = Some n } → LeavesApart (Med n) p q
+med_apart p q n e = record { path = λ x. ap (λ (y : Pending). y.prepended) e; communities = λ x. ap (λ (y : Pending). y.communities) e }
+
+pub weight_apart : (p q : Pending) (n : ℕ) → q ≡ record p { weight = Some n } → LeavesApart (Weight n) p q
+weight_apart p q n e = record { path = λ x. ap (λ (y : Pending). y.prepended) e; communities = λ x. ap (λ (y : Pending). y.communities) e }
+
+pub change_apart : (p q : Pending) (both change : CommChange) → q ≡ record p { communities = Some both } → LeavesApart (Communities change) p q
+change_apart p q both change e = record { path = λ x. ap (λ (y : Pending). y.prepended) e; communities = λ x. absurd (true≢false x) }

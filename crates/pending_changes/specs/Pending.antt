@@ -1,6 +1,6 @@
 -- Changes of a route that wait to be made, in one form (RFC 4271, section 5; RFC 1997): the last value of each attribute
 -- that is set, the numbers that come before the path, and one change of the communities.
-use Rattle.std.specs.Prelude.{◌≡◌, ℕ, Bool, true, List, [], ◌∷◌, ◌++◌, map, reverse, Option, Some, None}
+use Rattle.std.specs.Prelude.{◌≡◌, ℕ, Bool, true, false, List, [], ◌∷◌, ◌++◌, map, reverse, Option, Some, None}
 use Rattle.std.specs.List.{list_all}
 use Rattle.route_types.specs.Route.{RouteParts}
 use Rattle.route_types.specs.Community.{RectParts}
@@ -84,3 +84,35 @@ pub record PendingSays (on_value : Change → Bool) (on_rect : RectParts → Boo
   pub next_hop : if_there (λ h. on_value (NextHop h)) p.next_hop ≡ true
   pub prepended : list_all (λ n. on_value (Prepend n)) p.prepended ≡ true
   pub communities : if_there (λ c. list_all on_rect c.removed) p.communities ≡ true
+
+-- ---- what they leave as it was
+
+-- the change puts a number before the path
+abbrev pub is_prepend : Change → Bool
+is_prepend (NextHop h) = false
+is_prepend (Prepend n) = true
+is_prepend (Origin o) = false
+is_prepend (LocalPreference n) = false
+is_prepend (Med n) = false
+is_prepend (Weight n) = false
+is_prepend (Communities c) = false
+
+-- the change is one of the communities
+abbrev pub is_of_communities : Change → Bool
+is_of_communities (NextHop h) = false
+is_of_communities (Prepend n) = false
+is_of_communities (Origin o) = false
+is_of_communities (LocalPreference n) = false
+is_of_communities (Med n) = false
+is_of_communities (Weight n) = false
+is_of_communities (Communities c) = true
+
+-- the path waits as before where the change puts no number before it, and the communities where it is none of them
+pub record LeavesApart (c : Change) (p q : Pending) : Type 0 where
+  pub path : is_prepend c ≡ false → q.prepended ≡ p.prepended
+  pub communities : is_of_communities c ≡ false → q.communities ≡ p.communities
+
+-- nothing waits for the path or the communities
+pub record LeavesAll (p : Pending) : Type 0 where
+  pub path : p.prepended ≡ []
+  pub communities : p.communities ≡ None

@@ -8,7 +8,7 @@ ghost use Rattle.route_types.specs.declared.change.Change.TheVariants.{Communiti
 ghost use Rattle.route_types.specs.declared.community.Community.{Community};
 ghost use Rattle.std.specs.List.{list_all};
 ghost use Rattle.community_cuts.specs.Earlier.{behind};
-ghost use Rattle.pending_changes.specs.Pending.{communities_behind, route_behind, change_says, if_there, PendingSays};
+ghost use Rattle.pending_changes.specs.Pending.{communities_behind, route_behind, change_says, if_there, PendingSays, LeavesApart, LeavesAll};
 
 use community_cuts::joined;
 use route_types::{Change, CommChange, Duplicate, Memory, NextHop, Origin, Row};
@@ -29,10 +29,11 @@ pub struct Pending {
 
 impl Pending {
     /// Nothing is pending. It takes no memory.
-    #[tactic(auto, using(crate::proofs::PendingLaws::none_leaves, crate::proofs::PendingLaws::none_says))]
+    #[tactic(auto, using(crate::proofs::PendingLaws::none_leaves, crate::proofs::PendingLaws::none_says, crate::proofs::PendingLaws::none_apart))]
     pub fn none(alloc: Global) -> Pending
         ensures leaves { (r : RouteParts) → route_behind result r ≡ r }
         ensures said { (on_value : Change → Bool) (on_rect : RectParts → Bool) → PendingSays on_value on_rect result }
+        ensures apart { LeavesAll result }
     {
         Pending {
             local_preference: None,
@@ -52,6 +53,8 @@ impl Pending {
         ensures leaves { IfOk result (λ p. (r : RouteParts) → route_behind p r ≡ changed change.now (route_behind self r)) }
         // It says no more than the two.
         ensures said { IfOk result (λ p. (on_value : Change → Bool) (on_rect : RectParts → Bool) → PendingSays on_value on_rect self → change_says on_value on_rect change.now ≡ true → PendingSays on_value on_rect p) }
+        // What waits for the path or the communities stays, where the change is of another attribute.
+        ensures apart { IfOk result (LeavesApart change.now self) }
     {
         match change {
             Change::NextHop(next_hop) => Ok(with_next_hop(self, *next_hop)),
@@ -137,10 +140,11 @@ fn with_weight(pending: Pending, number: u16) -> Pending
     }
 }
 
-#[tactic(auto, using(crate::proofs::PendingLaws::change_leaves, crate::proofs::PendingLaws::change_says_too))]
+#[tactic(auto, using(crate::proofs::PendingLaws::change_leaves, crate::proofs::PendingLaws::change_says_too, crate::proofs::PendingLaws::change_apart))]
 fn with_change(alloc: Global, pending: Pending, change: &CommChange) -> Result<Pending, Memory>
     ensures leaves { IfOk result (λ p. (r : RouteParts) → route_behind p r ≡ changed (Communities change.now) (route_behind pending r)) }
     ensures said { IfOk result (λ p. (on_value : Change → Bool) (on_rect : RectParts → Bool) → PendingSays on_value on_rect pending → list_all on_rect change.now.removed ≡ true → PendingSays on_value on_rect p) }
+    ensures apart { IfOk result (LeavesApart (Communities change.now) pending) }
 {
     let both = behind_both(alloc, &pending.communities, change)?;
     Ok(Pending {

@@ -3,5 +3,6 @@ pub mod SettledLaws
 pub mod ListedLaws
 pub mod StepLaws
 pub mod SaidLaws
+pub mod ApartLaws
 pub mod WaitingLaws
 mod Examples

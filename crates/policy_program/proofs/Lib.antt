@@ -3,7 +3,7 @@ pub mod Unsound
 pub mod Judged
 pub mod Fetched
 pub mod NewNames
-pub mod Straight
+pub mod Settled
 pub mod Right
 pub mod ToldOnce
 pub mod Saying

@@ -10,7 +10,7 @@ use Rattle.policy_request.specs.declared.language.Language.{Language}
 use Rattle.policy_request.specs.declared.language.Language.TheVariants.{Rpl}
 use Rattle.policy_sources.specs.Source.{Source, Policy, OfIos, OfJunos, OfRpl, Loaded, Loads, ios_source}
 use Rattle.policy_sources.proofs.LoadsOnce.{loads_alike}
-use Rattle.policy_program.specs.StraightForms.{is_straight}
+use Rattle.ios_reader.specs.Profile.{all_forms}
 use Rattle.policy_program.specs.Expressible.{AreConstructs, IsExpressible, LacksFirst, dialect_of}
 use Rattle.policy_program.specs.Answer.{Told, IsInexpressible, status_told}
 use Rattle.policy_program.specs.Lines.{place_in}
@@ -33,7 +33,7 @@ expressible_not p to c granted lacks =
 
 can_not : (source : Source) (to : Language) (told : Told) → CanSay source to → CannotSay source to told → ⊥
 can_not source to told can cannot =
-    let same : can.0 ≡ cannot.policy = loads_alike is_straight source.language source.names source.text (Loaded can.0) (Loaded cannot.policy) can.1 cannot.loads in
+    let same : can.0 ≡ cannot.policy = loads_alike all_forms source.language source.names source.text (Loaded can.0) (Loaded cannot.policy) can.1 cannot.loads in
     expressible_not cannot.policy to cannot.missing (subst (λ (p : Policy). IsExpressible p to) same can.2) cannot.lacks
 
 -- what can be said isn't told of
@@ -58,7 +58,7 @@ unsayable_sound (Translate t) (source ∷ other ∷ texts) file told x = absurd 
 unsayable_sound (Judge j) texts file told x = absurd x
 
 -- the first construct that RPL can't say, if there is one, decides
-says_by : (name source : List ℕ) (p : Policy) (cs : List Construct) (o : Option Construct) → Loads is_straight (ios_source name source) (Loaded p) → AreConstructs p cs → Lacks (dialect_of Rpl) cs o
+says_by : (name source : List ℕ) (p : Policy) (cs : List Construct) (o : Option Construct) → Loads all_forms (ios_source name source) (Loaded p) → AreConstructs p cs → Lacks (dialect_of Rpl) cs o
     → CanSay (ios_source name source) Rpl ⊎ ((told : Told) × CannotSay (ios_source name source) Rpl told)
 says_by name source p cs None loads are granted = inl (p, loads, record { constructs = cs; are = are; granted = granted })
 says_by name source p cs (Some c) loads are first = inr (
@@ -67,7 +67,7 @@ says_by name source p cs (Some c) loads are first = inr (
 )
 
 -- a policy of a source can be said, or something is told
-says_or : (name source : List ℕ) (p : Policy) → Loads is_straight (ios_source name source) (Loaded p) → CanSay (ios_source name source) Rpl ⊎ ((told : Told) × CannotSay (ios_source name source) Rpl told)
+says_or : (name source : List ℕ) (p : Policy) → Loads all_forms (ios_source name source) (Loaded p) → CanSay (ios_source name source) Rpl ⊎ ((told : Told) × CannotSay (ios_source name source) Rpl told)
 says_or name source p loads =
     let cs : List Construct = map_constructs name (ios_tree source) in
     says_by name source p cs (first_missing (dialect_of Rpl) cs) loads (subst (λ (q : Policy). AreConstructs q cs) (sym loads.0) refl) (lacks_first (dialect_of Rpl) cs)

@@ -7,7 +7,7 @@ use Rattle.policy_sources.specs.declared.loads.LoadFault.TheVariants as unloaded
 use Rattle.policy_request.specs.Words.{TranslateParts, Translate}
 use Rattle.policy_request.specs.declared.language.Language.{Language}
 use Rattle.policy_request.specs.declared.language.Language.TheVariants.{Ios, Rpl}
-use Rattle.policy_program.specs.StraightForms.{is_straight}
+use Rattle.ios_reader.specs.Profile.{all_forms}
 use Rattle.policy_program.specs.Answer.{Told}
 use Rattle.policy_program.specs.Requests.{PolicyFile}
 use Rattle.policy_program.specs.Layers.{TellsLoad, TellsTranslation, FailsToTranslate, RefusesUnsound, AnswersOn}
@@ -25,9 +25,9 @@ unsound taken file language names text unloaded.Memory (Refused r) fails tells =
 unsound taken file language names text fault Memory fails tells = tt
 
 -- a fault of the load of a source of translate is its answer
-load_refused : (t : TranslateParts) (text : List ℕ) (fault : LoadFault) (about : Fault) → FailsToLoad is_straight (ios_source t.policy text) fault
+load_refused : (t : TranslateParts) (text : List ℕ) (fault : LoadFault) (about : Fault) → FailsToLoad all_forms (ios_source t.policy text) fault
     → TellsLoad t.file (t.policy ∷ []) text fault about → AnswersOn (Translate t) (text ∷ []) (Err about)
-load_refused t text fault (Refused r) fails tells = inl (inl (unsound is_straight t.file Ios (t.policy ∷ []) text fault (Refused r) fails tells))
+load_refused t text fault (Refused r) fails tells = inl (inl (unsound all_forms t.file Ios (t.policy ∷ []) text fault (Refused r) fails tells))
 load_refused t text fault Memory fails tells = tt
 
 -- and so is any other fault of a translation

@@ -10,7 +10,7 @@ use Rattle.policy_request.specs.NewNames.{is_new_name}
 use Rattle.policy_request.specs.declared.language.Language.{Language}
 use Rattle.policy_request.specs.declared.language.Language.TheVariants.{Rpl}
 use Rattle.policy_sources.specs.Source.{Taken, Source, Policy, Loaded, Broken, NoPolicy, Outside, Loads, meaning, ios_source}
-use Rattle.policy_program.specs.StraightForms.{is_straight}
+use Rattle.ios_reader.specs.Profile.{all_forms}
 use Rattle.policy_program.specs.Expressible.{LacksFirst}
 use Rattle.policy_program.specs.Results.{IsTranslation, outcome_text}
 use Rattle.policy_program.specs.Lines.{place_in}
@@ -45,10 +45,10 @@ told_of (told.SpellsNoRoute line) = SpellsNoRoute line
 -- why a policy of a source is not translated into a language: it does not load, or this is the first construct that the
 -- language can't say
 abbrev pub FailsToTranslate : Source → Language → TranslateFault → Type 0
-FailsToTranslate source to (untranslated.Broken span kind) = Loads is_straight source (Broken span kind)
-FailsToTranslate source to (untranslated.NoPolicy place) = Loads is_straight source (NoPolicy place)
-FailsToTranslate source to (untranslated.Outside span cause) = Loads is_straight source (Outside span cause)
-FailsToTranslate source to (untranslated.Inexpressible span kind) = (p : Policy) × Loads is_straight source (Loaded p) × LacksFirst p to (record { kind = kind; span = span })
+FailsToTranslate source to (untranslated.Broken span kind) = Loads all_forms source (Broken span kind)
+FailsToTranslate source to (untranslated.NoPolicy place) = Loads all_forms source (NoPolicy place)
+FailsToTranslate source to (untranslated.Outside span cause) = Loads all_forms source (Outside span cause)
+FailsToTranslate source to (untranslated.Inexpressible span kind) = (p : Policy) × Loads all_forms source (Loaded p) × LacksFirst p to (record { kind = kind; span = span })
 FailsToTranslate source to untranslated.Memory = Unit {0}
 
 -- what translation from IOS to RPL answers

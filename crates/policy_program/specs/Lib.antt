@@ -1,4 +1,3 @@
-pub mod StraightForms
 pub mod Expressible
 pub mod Results
 pub mod Lines

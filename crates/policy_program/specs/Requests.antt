@@ -6,7 +6,6 @@ use Rattle.route_types.specs.RouteText.{SpellsRoute, IsFirstBadLine}
 use Rattle.ios_reader.specs.Profile.{all_forms}
 use Rattle.expressible_table.specs.declared.construct.Construct.{Construct}
 use Rattle.policy_sources.specs.Source.{Taken, Source, Policy, Load, Loaded, Broken, NoPolicy, Outside, Loads, source_in, ios_source}
-use Rattle.policy_program.specs.StraightForms.{is_straight}
 use Rattle.policy_program.specs.Expressible.{IsExpressible, LacksFirst}
 use Rattle.policy_program.specs.Lines.{place_in}
 use Rattle.policy_program.specs.Answer.{Told, CannotRead, IsTooLong, IsBroken, HasNoPolicy, IsOutside, IsInexpressible, SpellsNoRoute, Answer, Result, Refusal}
@@ -40,7 +39,7 @@ IsResult q texts status text = ⊥
 
 -- the forms of statements that the verb takes
 abbrev pub taken_by : Request → Taken
-taken_by (Translate t) = is_straight
+taken_by (Translate t) = all_forms
 taken_by (Judge j) = all_forms
 
 -- ---- what is read of a file
@@ -82,12 +81,12 @@ AreSound taken is ts = ⊥
 
 -- the source loads, and the language can say its policy
 abbrev pub CanSay : Source → Language → Type 0
-CanSay source to = (p : Policy) × Loads is_straight source (Loaded p) × IsExpressible p to
+CanSay source to = (p : Policy) × Loads all_forms source (Loaded p) × IsExpressible p to
 
 -- the source loads, and this is told of the first construct of its policy that the language can't say
 pub record CannotSay (source : Source) (to : Language) (told : Told) : Type 0 where
   pub policy : Policy
-  pub loads : Loads is_straight source (Loaded policy)
+  pub loads : Loads all_forms source (Loaded policy)
   pub missing : Construct
   pub lacks : LacksFirst policy to missing
   pub is : told ≡ IsInexpressible (place_in source.text missing.span.start) to missing.kind

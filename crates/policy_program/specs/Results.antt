@@ -9,7 +9,6 @@ use Rattle.rpl_printer.specs.Own.{TouchesItsOwn}
 use Rattle.policy_request.specs.declared.language.Language.{Language}
 use Rattle.policy_request.specs.declared.language.Language.TheVariants.{Ios, Junos, Rpl}
 use Rattle.policy_sources.specs.Source.{Source, Policy, Loaded, Loads, meaning}
-use Rattle.policy_program.specs.StraightForms.{is_straight}
 use Rattle.policy_program.specs.Expressible.{IsExpressible}
 
 -- the text touches nothing of others, by its language: each of its statements lies in a block, and each block is of the
@@ -24,7 +23,7 @@ IsOwn Rpl name text = TouchesItsOwn name text
 -- same of it, and it touches nothing of others.
 pub record IsTranslation (source : Source) (to : Language) (name text : List ℕ) : Type 0 where
   pub policy : Policy
-  pub loads : Loads is_straight source (Loaded policy)
+  pub loads : Loads all_forms source (Loaded policy)
   pub granted : IsExpressible policy to
   pub written : Policy
   pub reads : Loads all_forms (record { language = to; names = name ∷ []; text = text }) (Loaded written)

@@ -1,12 +1,11 @@
 -- What is written of a checked route-map: a text that says what it does, or the first construct that can't be said.
-use Rattle.std.specs.Prelude.{◌≡◌, ℕ, true, false, List, Some, Ok, Err, Result, Vec}
+use Rattle.std.specs.Prelude.{◌≡◌, ℕ, true, List, Some, Ok, Err, Result, Vec}
 use Rattle.std.specs.List.{list_all}
 use Rattle.std.specs.declared.alloc.Global.{Global}
 use Rattle.route_types.specs.Route.{RouteParts, InRange}
 use Rattle.ios_tree.specs.Tree.{ios_tree}
 use Rattle.ios_reader.specs.Profile.{PolicyParts, IsPolicyOf}
 use Rattle.ios_meaning.specs.Meaning.{ios_meaning, name_of}
-use Rattle.ios_lower.specs.Continues.{has_continue}
 use Rattle.policy_core.specs.Guards.{outcome_of, step_says}
 use Rattle.policy_core.specs.Sayable.{rpl_atom, rpl_change}
 use Rattle.policy_core.specs.declared.step.Step.{Step}
@@ -23,12 +22,11 @@ use Rattle.rpl_printer.specs.Own.{TouchesItsOwn}
 use Rattle.policy_program.specs.declared.translation.TranslateFault.{TranslateFault}
 use Rattle.policy_program.specs.declared.translation.TranslateFault.TheVariants.{Inexpressible, Memory}
 
--- a checked route-map of a text that has no `continue` line
-pub record IsStraight (policy : PolicyParts) : Type 0 where
+-- a checked route-map of a text
+pub record IsOfText (policy : PolicyParts) : Type 0 where
   pub text : List ℕ
   pub read : policy.items ≡ ios_tree text
   pub checked : IsPolicyOf policy.items policy.names
-  pub straight : has_continue policy.items (name_of policy) ≡ false
 
 -- what the table lists as a policy, as its reader gave it
 abbrev pub parts_of : Policy → PolicyParts

@@ -1,8 +1,8 @@
 //! What the command-line program does: `translate` writes a route-map of an IOS source as a policy in RPL, and
 //! `judge` tells what a policy makes of a route: a route-map of IOS, a chain of Junos policies or a route-policy of RPL.
 //! It stands on `policy_request`, which reads the words, and on `policy_sources`, which loads and judges policies of all
-//! languages; it gives the public items of both on. For a translation it also stands on `expressible_table`, `ios_lower`,
-//! `policy_core` and `rpl_printer`.
+//! languages; it gives the public items of both on. For a translation it also stands on `expressible_table`, `ios_graph`,
+//! `settled_graph`, `policy_core` and `rpl_printer`.
 //! From the outside in: `run` and its layers (top_call, request), the lines on standard error (lines, place), the verbs
 //! (translation, judge), and what both tell of a file (refusal).
 //! Its definitions are in `specs/`: `Run` and `Ends` say what `run` does, `Requests` what is right for a request.
@@ -15,7 +15,6 @@ mod place;
 mod refusal;
 mod request;
 mod status;
-mod straight_forms;
 mod top_call;
 mod translation;
 

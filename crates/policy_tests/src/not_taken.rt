@@ -1,20 +1,10 @@
-// What `judge` takes and `translate` doesn't: constructs that RPL can't say, and `continue` for now.
+// What `judge` takes and `translate` doesn't: constructs that RPL can't say.
 use crate::runs::{TRANSLATE, shows, unfailing};
 use std::test::Fail;
 
 #[test]
 fn not_taken(rt: HostRuntime) -> Result<(), Fail> {
     let rows = [
-        // Continue.
-        (
-            "\
-route-map IN permit 10
-  continue 20
-route-map IN permit 20
-",
-            4,
-            "in.cfg:2:3: outside: unknown-form",
-        ),
         // Exactly these communities.
         (
             "\
@@ -57,27 +47,8 @@ route-map IN permit 10
  match community C exact-match
  continue
 ",
-            4,
-            "in.cfg:4:2: outside: unknown-form",
-        ),
-        // A fault before the form that isn't taken, and behind it.
-        (
-            "\
-route-map IN permit 10
- match ip address prefix-list PL
- continue
-",
-            4,
-            "in.cfg:2:2: outside: undefined",
-        ),
-        (
-            "\
-route-map IN permit 10
- continue
- match ip address prefix-list PL
-",
-            4,
-            "in.cfg:2:2: outside: unknown-form",
+            5,
+            "in.cfg:3:2: inexpressible in rpl: exact-match",
         ),
     ];
     for (source, status, line) in rows {

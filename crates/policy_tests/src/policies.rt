@@ -86,7 +86,7 @@ fn policies(rt: HostRuntime) -> Result<(), Fail> {
 
 /// RPL can say the policy, and translation takes it.
 fn is_translated(policy: &str) -> bool {
-    !policy.contains(" exact-match") && !policy.contains(" continue")
+    !policy.contains(" exact-match")
 }
 
 /// The policy as it is written in RPL makes of its routes what is said.

@@ -346,9 +346,92 @@ end-policy
     ),
 ];
 
+/// What an entry that goes on sets is set where the run ends.
+const CONTINUES: &[Written] = &[
+    // Past a deny.
+    (
+        "\
+ip prefix-list A seq 5 permit 10.0.0.0/8
+ip prefix-list B seq 5 permit 172.16.0.0/12
+route-map IN permit 10
+ match ip address prefix-list A
+ set metric 50
+ continue 30
+route-map IN deny 20
+route-map IN permit 30
+ match ip address prefix-list B
+ set metric 70
+",
+        "\
+prefix-set M-p1
+  10.0.0.0/8
+end-set
+!
+prefix-set M-p2
+  172.16.0.0/12
+end-set
+!
+route-policy M
+  if destination in M-p1 and destination in M-p2 then
+    set med 70
+    done
+  endif
+  if destination in M-p1 then
+    set med 50
+    done
+  endif
+  drop
+end-policy
+!
+",
+        &[
+            (&["route 10.0.0.0/8"], Accept(&["med 50"])),
+            (&["route 172.16.0.0/12"], Reject),
+        ],
+    ),
+    // An entry that always goes on changes nothing of the tests behind it.
+    (
+        "\
+ip prefix-list A seq 5 permit 10.0.0.0/8
+route-map IN permit 10
+ set community 65000:1 additive
+ continue
+route-map IN permit 20
+ match ip address prefix-list A
+ set local-preference 200
+",
+        "\
+prefix-set M-p1
+  10.0.0.0/8
+end-set
+!
+route-policy M
+  if destination in M-p1 then
+    set local-preference 200
+    set community (65000:1) additive
+    done
+  endif
+  set community (65000:1) additive
+  done
+end-policy
+!
+",
+        &[
+            (
+                &["route 10.0.0.0/8"],
+                Accept(&["local-preference 200", "communities 65000:1"]),
+            ),
+            (
+                &["route 11.0.0.0/8", "communities 65000:7"],
+                Accept(&["communities 65000:1 65000:7"]),
+            ),
+        ],
+    ),
+];
+
 #[test]
 fn written(rt: HostRuntime) -> Result<(), Fail> {
-    for rows in [PREFIXES, COMMUNITIES, OTHERS, SETTINGS] {
+    for rows in [PREFIXES, COMMUNITIES, OTHERS, SETTINGS, CONTINUES] {
         for (source, text, routes) in rows {
             let texts = [("in.cfg", *source)];
             shows(&rt, &unfailing(TRANSLATE, &texts), (0, text, ""))?;

@@ -22,7 +22,7 @@ use Rattle.resolved_tests.specs.declared.answer.Answer.{Answer}
 use Rattle.resolved_tests.specs.declared.answer.Answer.TheVariants.{Decided, Asked, Parted}
 use Rattle.resolved_tests.specs.Decided.{has_none, DecidesLists}
 use Rattle.resolved_tests.proofs.DecidedLaws.{added_there}
-use Rattle.resolved_tests.specs.Answers.{answer_holds, Resolves, of_set, decided_by, decided_or, entry_behind, lists_behind, empty_alone, SaysAs, LeavesLists}
+use Rattle.resolved_tests.specs.Answers.{answer_holds, answer_says, Resolves, of_set, decided_by, decided_or, entry_behind, lists_behind, empty_alone, SaysAs, LeavesLists}
 
 -- ---- single values
 
@@ -56,9 +56,16 @@ value_holds p (LocalPreference n) is r = by_value (λ m. m == n) p.local_prefere
 value_holds p (OriginIs o) is r = by_value (λ x. same_origin x o) p.origin (OriginIs o) (λ x. x.origin) (λ x. refl) r
 value_holds p NoCommunity is r = absurd is
 
+value_says : (on_atom : Atom → Bool) (o : Option Bool) (a : Atom) → on_atom a ≡ true → answer_says on_atom (decided_or o a) ≡ true
+value_says on_atom None a h = h
+value_says on_atom (Some b) a h = refl
+
 -- a test of a single value is decided, or asked as it is
 pub value_resolves : (p : Pending) (a : Atom) (answer : Answer) → IsOfValue a → answer ≡ decided_or (decided_by p a) a → Resolves p a answer
-value_resolves p a answer is e = record { holds = λ r. ap (λ (x : Answer). answer_holds x r) e ∙ value_holds p a is r }
+value_resolves p a answer is e = record {
+  holds = λ r. ap (λ (x : Answer). answer_holds x r) e ∙ value_holds p a is r;
+  said = λ on_atom apart h. ap (λ (x : Answer). answer_says on_atom x) e ∙ value_says on_atom (decided_by p a) a h;
+}
 
 -- ---- paths
 
@@ -75,22 +82,38 @@ lists_law ns (l ∷ ls) path =
     ap (λ (b : Bool). b || list_any (λ x. path_answers x.entries path) (lists_behind ns ls)) (entries_law ns l.entries path)
     ∙ ap (λ (b : Bool). path_answers l.entries (ns ++ path) || b) (lists_law ns ls path)
 
+entries_same : (es : List PathEntry) → map (λ e. entry_behind [] e) es ≡ es
+unfolding pattern_behind_all
+entries_same [] = refl
+entries_same (e ∷ es) = ap (λ (xs : List PathEntry). e ∷ xs) (entries_same es)
+
+-- behind no number lists are what they are
+lists_same : (ls : List PathList) → lists_behind [] ls ≡ ls
+lists_same [] = refl
+lists_same (l ∷ ls) = λ i. record { entries = entries_same l.entries i } ∷ lists_same ls i
+
 -- a path is asked for what is left behind the numbers before it
 pub path_resolves : (p : Pending) (lists found : List PathList) → found ≡ lists_behind p.prepended lists → Resolves p (Path lists) (Asked (Path found))
 path_resolves p lists found e = record {
   holds = λ r. ap (λ (ls : List PathList). list_any (λ l. path_answers l.entries r.path) ls) e ∙ lists_law p.prepended lists r.path;
+  said = λ on_atom apart h. ap (λ (ls : List PathList). on_atom (Path ls)) (e ∙ ap (λ (ns : List ℕ). lists_behind ns lists) apart ∙ lists_same lists) ∙ h;
 }
 
 -- ---- communities
 
+none_there : (o : Option CommChange) (change : CommChange) → o ≡ None → o ≡ Some change → ⊥
+none_there o change e f = let clash : None ≡ Some change = sym e ∙ f in absurd (cc)
+
 pub lists_unchanged : (p : Pending) (lists found : List CommList) → p.communities ≡ None → found ≡ lists → Resolves p (Communities lists) (Asked (Communities found))
 lists_unchanged p lists found none e = record {
   holds = λ r. ap (λ (ls : List CommList). some_permits ls r.communities) e ∙ ap (λ (o : Option CommChange). some_permits lists (communities_behind o r.communities)) (sym none);
+  said = λ on_atom apart h. ap (λ (ls : List CommList). on_atom (Communities ls)) e ∙ h;
 }
 
 pub lists_changed : (p : Pending) (lists : List CommList) (change : CommChange) (answer : Answer) → p.communities ≡ Some change → LeavesLists answer lists change → Resolves p (Communities lists) answer
 lists_changed p lists change answer is l = record {
   holds = λ r. l.holds r ∙ ap (λ (o : Option CommChange). some_permits lists (communities_behind o r.communities)) (sym is);
+  said = λ on_atom apart h. absurd (none_there p.communities change apart is);
 }
 
 pub lists_asked : (lists found : List CommList) (change : CommChange) (answer : Answer) → ListsBefore found lists change → SaysAs answer found → LeavesLists answer lists change
@@ -116,11 +139,12 @@ empty_permitted [] = refl
 empty_permitted (c ∷ cs) = refl
 
 pub none_unchanged : (p : Pending) → p.communities ≡ None → Resolves p NoCommunity (Asked NoCommunity)
-none_unchanged p none = record { holds = λ r. ap (λ (o : Option CommChange). is_empty (communities_behind o r.communities)) (sym none) }
+none_unchanged p none = record { holds = λ r. ap (λ (o : Option CommChange). is_empty (communities_behind o r.communities)) (sym none); said = λ on_atom apart h. h }
 
 pub none_changed : (p : Pending) (change : CommChange) (answer : Answer) → p.communities ≡ Some change → LeavesLists answer (empty_alone ∷ []) change → Resolves p NoCommunity answer
 none_changed p change answer is l = record {
   holds = λ r. l.holds r ∙ empty_permitted (behind change r.communities) ∙ ap (λ (o : Option CommChange). is_empty (communities_behind o r.communities)) (sym is);
+  said = λ on_atom apart h. absurd (none_there p.communities change apart is);
 }
 
 -- behind a change that adds a community there is one

@@ -1,6 +1,6 @@
 -- What a test of a route behind pending changes asks of the route as it arrives (Cisco IOS command reference,
 -- 'route-map'; Junos OS Routing Policies User Guide, 'Routing Policy Match Conditions').
-use Rattle.std.specs.Prelude.{◌≡◌, ℕ, Bool, nat_le, ◌==◌, List, [], ◌∷◌, map, true, Option, Some, None}
+use Rattle.std.specs.Prelude.{◌≡◌, ℕ, Bool, nat_le, ◌==◌, List, [], ◌∷◌, map, true, false, Option, Some, None}
 use Rattle.std.specs.List.{list_any}
 use Rattle.route_types.specs.Route.{RouteParts}
 use Rattle.route_types.specs.declared.community.CommChange.{CommChange}
@@ -28,9 +28,31 @@ answer_holds (Decided b) r = b
 answer_holds (Asked a) r = atom_holds a r
 answer_holds (Parted l) r = some_permits l.lists (behind l.change r.communities)
 
--- on each arriving route the answer is that of the test behind what is pending
+-- what is asked, if anything is, passes; what no one test can say does not
+abbrev pub answer_says : (Atom → Bool) → Answer → Bool
+answer_says on_atom (Decided b) = true
+answer_says on_atom (Asked a) = on_atom a
+answer_says on_atom (Parted l) = false
+
+-- nothing is pending for the path or the communities, if the test asks for them
+abbrev pub IsApart : Pending → Atom → Type 0
+IsApart p (Prefix lists) = Unit {0}
+IsApart p (NextHop lists) = Unit {0}
+IsApart p (Path lists) = p.prepended ≡ []
+IsApart p (Communities lists) = p.communities ≡ None
+IsApart p (MedOneOf numbers) = Unit {0}
+IsApart p (MedAtLeast n) = Unit {0}
+IsApart p (MedAtMost n) = Unit {0}
+IsApart p (LocalPreference n) = Unit {0}
+IsApart p (OriginIs o) = Unit {0}
+IsApart p NoCommunity = p.communities ≡ None
+
+-- the answer to a test behind what is pending
 pub record Resolves (p : Pending) (a : Atom) (answer : Answer) : Type 0 where
+  -- on each arriving route it is that of the test
   pub holds : (r : RouteParts) → answer_holds answer r ≡ atom_holds a (route_behind p r)
+  -- it asks for no more than the test, where nothing that the test asks for is pending but single values
+  pub said : (on_atom : Atom → Bool) → IsApart p a → on_atom a ≡ true → answer_says on_atom answer ≡ true
 
 -- ---- tests of single values
 

@@ -1,3 +1,4 @@
+pub mod SaidLaws
 pub mod EndLaws
 pub mod PlanLaws
 pub mod MakeLaws

@@ -1,13 +1,13 @@
 -- Tasks one after the other: what each needs is there when its turn comes, and less is to be done.
-use Rattle.std.proofs.Common.{◌≡◌, refl, sym, ap, subst, ◌∙◌, ℕ, suc, ◌+◌, ◌*◌, ◌^◌, ◌<◌, ◌≤◌, List, [], ◌∷◌, ◌++◌, length, map, Option, Some, None, inl, inr, arith}
+use Rattle.std.proofs.Common.{◌≡◌, refl, sym, ap, subst, ◌∙◌, ℕ, suc, ◌+◌, ◌*◌, ◌^◌, ◌<◌, ◌≤◌, Bool, true, false, List, [], ◌∷◌, ◌++◌, length, map, Option, Some, None, inl, inr, ◌⊎◌, arith}
 use Rattle.std.specs.List.{AllByRecursion}
 use Rattle.std.proofs.Math.Nat.{one-le-pow, pow-le-pow_right, pow-suc}
 use Rattle.indexmap.specs.IndexMap.{with_entries}
 use Rattle.core_nodes.specs.declared.node.NodeKind.{NodeKind}
 use Rattle.core_nodes.proofs.Places.{all_wider}
-use Rattle.settled_graph.specs.Keys.{Memo, known, IsKnown}
-use Rattle.settled_graph.specs.Plans.{IsPlan, parts_of}
-use Rattle.settled_graph.specs.Tasks.{MayBeMade, MayBeDone, and_also, MayAllBeDone, work, planless, IsPlanned}
+use Rattle.settled_graph.specs.Keys.{Memo, known, IsKnown, IsNoted}
+use Rattle.settled_graph.specs.Plans.{same_behind, IsPlan, parts_of}
+use Rattle.settled_graph.specs.Tasks.{MayBeMade, MayBeDone, and_also, MayAllBeDone, effort, work, planless, IsPlanned}
 use Rattle.settled_graph.specs.declared.key.Key.{Key}
 use Rattle.settled_graph.specs.declared.plan.Plan.{Plan}
 use Rattle.settled_graph.specs.declared.plan.Plan.TheVariants.{Ends, Goes, Asks}

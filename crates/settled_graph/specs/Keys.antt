@@ -1,5 +1,5 @@
 -- A node of a graph with the changes that are pending before it, and the node that settles it.
-use Rattle.std.specs.Prelude.{◌≡◌, ℕ, ◌<◌, ◌==◌, Bool, ◌&&◌, List, length, Option, Some, if◌then◌else◌}
+use Rattle.std.specs.Prelude.{◌≡◌, ℕ, ◌<◌, ◌==◌, Bool, true, ◌&&◌, List, length, Option, Some, if◌then◌else◌}
 use Rattle.std.specs.HashMap.{HashMap, get}
 use Rattle.std.specs.declared.hash.FoldHasher.{FoldHasher}
 use Rattle.std.specs.declared.hash.BuildHasherDefault.{BuildHasherDefault}
@@ -10,6 +10,10 @@ use Rattle.pending_changes.specs.contracts.pending.PendingPartialEq.TheImpl as p
 use Rattle.core_nodes.specs.Outcome.{outcome_at}
 use Rattle.core_nodes.specs.declared.node.NodeKind.{NodeKind}
 use Rattle.policy_core.specs.Settled.{IsSettled}
+use Rattle.route_types.specs.Community.{RectParts}
+use Rattle.route_types.specs.declared.change.Change.{Change}
+use Rattle.core_nodes.specs.declared.atom.Atom.{Atom}
+use Rattle.settled_graph.specs.Said.{MaySay, says_at}
 use Rattle.settled_graph.specs.declared.key.Key.{Key}
 
 -- ---- what a key stands for
@@ -23,6 +27,8 @@ pub record Settles (old new : List NodeKind) (k : Key) (n : ℕ) : Type 0 where
   pub within : n < length new
   pub answers : (r : RouteParts) → InRange r → outcome_at new n r ≡ outcome_behind old k r
   pub settled : IsSettled new n
+  -- what is said of all tests and changes is kept
+  pub says : (on_atom : Atom → Bool) (on_value : Change → Bool) (on_rect : RectParts → Bool) → MaySay on_atom on_value on_rect old k → says_at on_atom on_value on_rect new n ≡ true
 
 -- ---- which keys are settled already
 

@@ -1,4 +1,5 @@
 pub mod Ends
 pub mod Keys
 pub mod Plans
+pub mod Said
 pub mod Tasks

@@ -3,10 +3,8 @@ ghost use Rattle.std.specs.Prelude.{◌≡◌, ◌<◌, ℕ, Some, List, length,
 ghost use Rattle.std.specs.List.{AllByRecursion};
 ghost use Rattle.core_nodes.specs.Made.{Keeps};
 ghost use Rattle.core_nodes.specs.declared.node.NodeKind.{NodeKind as Kind};
-ghost use Rattle.resolved_tests.specs.Answers.{answer_holds};
-ghost use Rattle.community_branches.specs.Branches.{IsBranch};
 ghost use Rattle.settled_graph.specs.Keys.{known, IsKnown, AreWithin, IsSound, Settles};
-ghost use Rattle.settled_graph.specs.Plans.{IsPlan, parts_of, same_behind};
+ghost use Rattle.settled_graph.specs.Plans.{IsPlan, Answers, parts_of, same_behind};
 ghost use Rattle.settled_graph.specs.declared.plan.Plan.TheVariants.{Asks};
 
 use crate::ends::end_behind;
@@ -67,8 +65,9 @@ fn fork(
     Ok(node)
 }
 
-// The node that goes to `yes` where the answer says so of the arriving route, else to `no`.
-#[tactic(auto, using(crate::proofs::MakeLaws::decided_branch))]
+// The node that goes to `yes` where the answer says so of the arriving route, else to `no`. Nothing is asked where the
+// two are one.
+#[tactic(auto, using(crate::proofs::MakeLaws::one_way, crate::proofs::MakeLaws::decided_answers, crate::proofs::MakeLaws::parted_answers))]
 fn branch_by_answer(
     alloc: Global,
     core: &mut Core,
@@ -78,8 +77,11 @@ fn branch_by_answer(
 ) -> Result<Node, Memory>
     requires of_yes { yes < length core.old }
     requires of_no { no < length core.old }
-    ensures { IfOk result (IsBranch core.old core.new (answer_holds answer) yes no) }
+    ensures { IfOk result (Answers core.old core.new answer yes no) }
 {
+    if yes.place() == no.place() {
+        return Ok(yes);
+    }
     match answer {
         Answer::Decided(holds) => Ok(way(holds, yes, no)),
         Answer::Asked(atom) => {

@@ -1,13 +1,11 @@
 // What a key comes to.
 ghost use Rattle.std.specs.Prelude.{◌≡◌, ◌<◌, List, length, if◌then◌else◌, IfOk};
-ghost use Rattle.route_types.specs.Route.{RouteParts};
-ghost use Rattle.route_types.specs.Change.{changed};
-ghost use Rattle.pending_changes.specs.Pending.{route_behind};
 ghost use Rattle.core_nodes.specs.Made.{IsAt};
+ghost use Rattle.core_nodes.specs.Nodes.{AreNodes};
 ghost use Rattle.core_nodes.specs.declared.node.NodeKind.{NodeKind as Kind};
 ghost use Rattle.core_nodes.specs.declared.node.NodeKind.TheVariants.{Test};
 ghost use Rattle.resolved_tests.specs.Answers.{Resolves};
-ghost use Rattle.settled_graph.specs.Plans.{IsPlan, parts_of};
+ghost use Rattle.settled_graph.specs.Plans.{IsAndThen, IsPlan, parts_of};
 
 use crate::key::{Key, same_behind};
 use pending_changes::Pending;
@@ -57,8 +55,9 @@ pub(crate) fn plan_of(alloc: Global, core: &Core, key: &Key) -> Result<Plan, Mem
     }
 }
 
+#[tactic(auto, using(crate::proofs::PlanLaws::is_and_then))]
 fn and_then(alloc: Global, pending: &Pending, change: &Change) -> Result<Pending, Memory>
-    ensures { IfOk result (λ p. (r : RouteParts) → route_behind p r ≡ changed change.now (route_behind pending.now r)) }
+    ensures { IfOk result (IsAndThen change.now pending.now) }
 {
     let copied = pending.duplicate(alloc)?;
     let both = copied.and_then(alloc, change)?;
@@ -73,7 +72,7 @@ fn plan_of_test(
     met: usize,
     unmet: usize,
 ) -> Result<Plan, Memory>
-    ensures { IfOk result (λ plan. (nodes : List Kind) → IsAt nodes key.now.place (Test atom.now met unmet) → IsPlan nodes key.now plan) }
+    ensures { IfOk result (λ plan. (nodes : List Kind) → AreNodes nodes → IsAt nodes key.now.place (Test atom.now met unmet) → IsPlan nodes key.now plan) }
 {
     match resolve(alloc, &key.pending, atom)? {
         Answer::Decided(holds) => {

@@ -8,4 +8,4 @@ use Rattle.policy_program.proofs.translation.write_policy.Goals as goal
 
 pub print_policy-requires-clause-sayable : goal.print_policy-requires-clause-sayable
 print_policy-requires-clause-sayable c =
-    granted_says c.args.policy c.requires.straight (subst (LacksFirst Rpl (constructs_of c.args.policy)) c.in-Ok-None.field-0-is c.in-Ok-None.ensures.found)
+    granted_says c.args.policy c.requires.of_text (subst (LacksFirst Rpl (constructs_of c.args.policy)) c.in-Ok-None.field-0-is c.in-Ok-None.ensures.found)

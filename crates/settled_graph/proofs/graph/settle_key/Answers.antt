@@ -1,4 +1,4 @@
-use Rattle.std.proofs.Common.{◌∙◌, ap, ◌∷◌, List}
+use Rattle.std.proofs.Common.{◌≡◌, ◌∙◌, ap, ◌∷◌, [], List}
 use Rattle.settled_graph.specs.Keys.{IsKnown}
 use Rattle.settled_graph.specs.Tasks.{planless}
 use Rattle.settled_graph.specs.declared.tasks.Task.{Task}
