@@ -2,3 +2,4 @@
 mod Examples
 pub mod FirstMissing
 pub mod Rises
+pub mod Noted

@@ -1,9 +1,9 @@
 //! The kinds of the lines of a route-map.
 
-ghost use Rattle.std.specs.Prelude.{◌≡◌};
+ghost use Rattle.std.specs.Prelude.{◌≡◌, true};
 ghost use Rattle.std.specs.List.{list_any};
 ghost use Rattle.expressible_table.specs.Kinds.{has_short, hop_kind, community_kind, origin_kind, deletion_kind, kind_of};
-ghost use Rattle.expressible_table.specs.Noted.{TellLists};
+ghost use Rattle.expressible_table.specs.Noted.{TellLists, tests_hop, has_hop_line};
 
 use crate::kind::Kind;
 use crate::lists::Lists;
@@ -13,7 +13,8 @@ use route_types::{Origin, Row};
 
 // Whether one of the lists that a line names has an entry that isn't of full length.
 fn any_short<'a>(lists: &Lists<'a>, line: &'a PrefixMatch) -> bool
-    requires { TellLists lists.now }
+    requires tell { TellLists lists.now }
+    requires asked { has_hop_line lists.now.items.now ≡ true }
     ensures { result ≡ list_any (has_short lists.now.items.now line.now.family) line.now.lists }
 {
     let width = u64::from(line.family.width());
@@ -21,7 +22,8 @@ fn any_short<'a>(lists: &Lists<'a>, line: &'a PrefixMatch) -> bool
 }
 
 fn hop_kind<'a>(lists: &Lists<'a>, line: &'a PrefixMatch) -> Kind
-    requires { TellLists lists.now }
+    requires tell { TellLists lists.now }
+    requires asked { has_hop_line lists.now.items.now ≡ true }
     ensures { result ≡ hop_kind lists.now.items.now line.now }
 {
     if any_short(lists, line) {
@@ -62,9 +64,10 @@ fn deletion_kind<'a>(lists: &Lists<'a>, list: &'a Row<u8>) -> Kind
     }
 }
 
-/// The kind of a line; a description is no construct. It takes no memory.
+/// The kind of a line of the tree; a description is no construct. It takes no memory.
 pub(crate) fn kind_of<'a>(lists: &Lists<'a>, line: &'a MapLine) -> Option<Kind>
-    requires { TellLists lists.now }
+    requires tell { TellLists lists.now }
+    requires asked { tests_hop line.now ≡ true → has_hop_line lists.now.items.now ≡ true }
     ensures { result ≡ kind_of lists.now.items.now line.now }
 {
     match line {

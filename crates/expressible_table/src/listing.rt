@@ -5,7 +5,7 @@ ghost use Rattle.text_words.specs.declared.statement.Span.{Span as SpecSpan};
 ghost use Rattle.ios_tree.specs.Sorts.{is_line_sort, sort_of_form};
 ghost use Rattle.ios_tree.specs.declared.item.IosItem.{IosItem as SpecItem};
 ghost use Rattle.expressible_table.specs.Constructs.{put, put_line, put_entry, entries_in, map_constructs, named_constructs, constructs_of};
-ghost use Rattle.expressible_table.specs.Noted.{TellLists, left_in};
+ghost use Rattle.expressible_table.specs.Noted.{TellLists, left_in, is_hop_line, has_hop_line};
 ghost use Rattle.expressible_table.specs.declared.construct.Construct.{Construct as SpecConstruct};
 ghost use Rattle.expressible_table.specs.declared.kind.Kind.TheVariants.{Flow};
 
@@ -45,7 +45,8 @@ fn push_line<'a>(
     item: &'a IosItem,
     found: &mut Vec<Construct>,
 ) -> Result<(), Memory>
-    requires { TellLists lists.now }
+    requires tell { TellLists lists.now }
+    requires asked { is_hop_line item.now.form ≡ true → has_hop_line lists.now.items.now ≡ true }
     ensures { IfOk result (λ _. (rest : List SpecConstruct) → found.new.items ++ rest ≡ found.old.items ++ put_line lists.now.items.now item.now.form item.now.span rest) }
 {
     if let IosForm::Line(line) = &item.form {
@@ -73,7 +74,8 @@ fn push_item<'a>(
     item: &'a IosItem,
     found: &mut Vec<Construct>,
 ) -> Result<bool, Memory>
-    requires { TellLists lists.now }
+    requires tell { TellLists lists.now }
+    requires asked { is_hop_line item.now.form ≡ true → has_hop_line lists.now.items.now ≡ true }
     ensures { IfOk result (λ o. (is : List SpecItem) → found.new.items ++ left_in lists.now.items.now name.now o is ≡ found.old.items ++ left_in lists.now.items.now name.now inside (item.now ∷ is)) }
 {
     if is_line(&item.form) {
@@ -96,7 +98,8 @@ fn found_in<'a>(
     name: &[u8],
     items: &'a [IosItem],
 ) -> Result<Vec<Construct>, Memory>
-    requires { TellLists lists.now }
+    requires tell { TellLists lists.now }
+    requires whole { lists.now.items.now ≡ items.now }
     ensures { IfOk result (λ found. found.items ≡ entries_in lists.now.items.now name.now items.now) }
 {
     let mut found = Vec::new(alloc);

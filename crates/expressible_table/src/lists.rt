@@ -1,18 +1,21 @@
 //! What the kinds ask of the lists of a tree, each found in one walk.
 
-ghost use Rattle.std.specs.Prelude.{◌≡◌, ◌||◌, ◌==◌, ℕ, List, IfOk, OnOk};
+ghost use Rattle.std.specs.Prelude.{◌≡◌, ◌||◌, ◌==◌, ℕ, List, true, IfOk, OnOk};
 ghost use Rattle.route_types.specs.Address.{width};
+ghost use Rattle.route_types.specs.declared.address.Family.{Family};
 ghost use Rattle.policy_text.specs.NameSets.{has_name};
-ghost use Rattle.expressible_table.specs.Noted.{gives_short, gives_deny, TellLists};
+ghost use Rattle.expressible_table.specs.Kinds.{has_short};
+ghost use Rattle.expressible_table.specs.Noted.{gives_short, gives_deny, is_hop_line, has_hop_line, TellLists};
 
-use ios_reader::{IosForm, IosItem};
+use ios_reader::{IosForm, IosItem, MapLine};
 use policy_text::{NameOf, NameSet, add_name, names_of};
 use prefix_sets::PrefixEntry;
 use route_types::Memory;
 use std::alloc::Global;
+use std::collections::BTreeSet;
 
-/// The items of a tree, the prefix lists among them with an entry that isn't of full length, and the community lists
-/// with one that denies.
+/// The items of a tree, the prefix lists among them with an entry that isn't of full length, if a line tests the next
+/// hop, and the community lists with one that denies.
 #[derive(Drop)]
 pub struct Lists<'a> {
     pub items: &'a [IosItem],
@@ -79,12 +82,39 @@ impl NameOf<IosItem> for Deny {
     }
 }
 
+fn is_hop_line(form: &IosForm) -> bool
+    ensures { result ≡ is_hop_line form.now }
+{
+    match form {
+        IosForm::Line(MapLine::MatchNextHop(_)) => true,
+        _ => false,
+    }
+}
+
+// Whether a line tests the next hop.
+fn has_hop_line(items: &[IosItem]) -> bool
+    ensures { result ≡ has_hop_line items.now }
+{
+    items.iter().any(|item| is_hop_line(&item.form))
+}
+
+// The prefix lists with an entry that isn't of full length; none is noted where no line tests the next hop.
+fn short_lists<'a>(alloc: Global, items: &'a [IosItem]) -> Result<NameSet<'a>, Memory>
+    ensures { IfOk result (λ names. has_hop_line items.now ≡ true → (family : Family) (list : List ℕ) → has_name names list (width family) 0 ≡ has_short items.now family list) }
+{
+    if !has_hop_line(items) {
+        return Ok(BTreeSet::new(alloc));
+    }
+    let names = names_of::<IosItem, Short>(alloc, items)?;
+    Ok(names)
+}
+
 /// What the kinds ask of the lists of a tree. The one error is want of memory.
 pub(crate) fn lists_of<'a>(alloc: Global, items: &'a [IosItem]) -> Result<Lists<'a>, Memory>
     ensures tell { IfOk result TellLists }
     ensures items { IfOk result (λ l. l.items.now ≡ items.now) }
 {
-    let short = names_of::<IosItem, Short>(alloc, items)?;
+    let short = short_lists(alloc, items)?;
     let deny = names_of::<IosItem, Deny>(alloc, items)?;
     Ok(Lists { items, short, deny })
 }

@@ -1,6 +1,6 @@
 -- One more entry behind the one under way.
-use Rattle.std.proofs.Common.{◌≡◌, sym, ap, ◌∙◌, true, false, List, ◌∷◌, Option, Some, None}
-use Rattle.rpl_plans.specs.Choices.{JoinsChoice, grouped_from}
+use Rattle.std.proofs.Common.{◌≡◌, refl, sym, ap, ◌∙◌, true, false, length, List, [], ◌∷◌, Option, Some, None, arith}
+use Rattle.rpl_plans.specs.Choices.{JoinsChoice, grouped_from, grouped}
 use Rattle.rpl_plans.specs.declared.choice.Choice.{Choice}
 use Rattle.rpl_plans.specs.declared.test.PlannedTest.{PlannedTest}
 
@@ -15,3 +15,10 @@ unfolding grouped_from
 unmet c d e h ds =
     ap (λ (o : Option PlannedTest). elim o [ Some test ↦ grouped_from (record { permit = c.permit; test = test }) ds | None ↦ c ∷ grouped_from d ds ]) h.0
     ∙ ap (λ k. k ∷ grouped_from d ds) (sym h.1)
+
+-- an entry alone
+pub grouped_alone : (cs : List Choice) → length cs ≡ 1 → grouped cs ≡ cs
+unfolding grouped_from
+grouped_alone [] h = absurd (omega (arith, h))
+grouped_alone (c ∷ []) h = refl
+grouped_alone (c ∷ d ∷ ds) h = absurd (omega (arith, h))

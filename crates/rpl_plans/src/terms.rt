@@ -32,7 +32,8 @@ fn push_choice(
     Ok(())
 }
 
-// Adds the terms of a list.
+// Adds the terms of a list. Of one entry there is nothing to join.
+#[tactic(auto, using(crate::proofs::GroupingLaws::grouped_alone))]
 pub(crate) fn push_terms(
     alloc: Global,
     terms: &mut Row<PlannedTerm>,
@@ -40,6 +41,9 @@ pub(crate) fn push_terms(
 ) -> Result<(), Memory>
     ensures { IfOk result (λ _. terms.new ≡ terms.old ++ terms_from [] (grouped choices.now)) }
 {
+    if choices.len() == 1 {
+        return push_each(alloc, terms, choices);
+    }
     let choices = grouped(alloc, choices)?;
     push_each(alloc, terms, choices.as_slice())?;
     Ok(())
