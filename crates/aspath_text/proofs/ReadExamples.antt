@@ -1,5 +1,5 @@
 -- Worked examples of the grammars that the checker computes, and what they spell by the laws.
-use Rattle.std.proofs.Common.{◌≡◌, refl, ℕ, List, [], ◌∷◌, Some, None}
+use Rattle.std.proofs.Common.{◌≡◌, refl, sym, ◌∙◌, ℕ, List, [], ◌∷◌, Option, Some, None}
 use Rattle.std.specs.Prelude.{codes}
 use Rattle.route_types.specs.Words.{number_in, parts_at}
 use Rattle.route_types.specs.RouteLines.{each_in}
@@ -7,6 +7,7 @@ use Rattle.aspath_text.specs.IosGrammar.{SpellsPattern}
 use Rattle.aspath_text.specs.IosRead.{parts_by, cut_at, runs_after, set_at, sets_in, word_in, set_in, tail_in, piece_in, pieces_end, between, branch_in, ios_pattern_in}
 use Rattle.aspath_text.specs.JunosGrammar.{SpellsJunos}
 use Rattle.aspath_text.specs.JunosRead.{range_in, behind_blanks, member_in, members_of, count_in, item_in, items_of, items_in, junos_pattern_in}
+use Rattle.path_patterns.specs.declared.items.TokenItem.{TokenItem}
 use Rattle.path_patterns.specs.declared.items.TokenPattern.{TokenPattern}
 use Rattle.path_patterns.specs.declared.pattern.IosBranch.{IosBranch}
 use Rattle.path_patterns.specs.declared.pattern.IosBranch.TheVariants.{EmptyPath, Pieces}
@@ -15,7 +16,7 @@ use Rattle.path_patterns.specs.declared.pattern.Piece.TheVariants.{Anything, Set
 use Rattle.path_patterns.specs.declared.pattern.DigitWord.{DigitWord}
 use Rattle.path_patterns.specs.declared.pattern.DigitWord.TheVariants.{Any, Digits}
 use Rattle.path_patterns.specs.declared.pattern.Repeat.TheVariants.{Maybe}
-use Rattle.aspath_text.proofs.IosReadSpelled.{ios_pattern_found}
+use Rattle.aspath_text.proofs.IosReadSpelled.{ios_pattern_found, ios_pattern_only}
 use Rattle.aspath_text.proofs.JunosRead.{junos_pattern_found}
 
 -- a word of one digit set, by its bits: bit d for digit d
@@ -44,6 +45,11 @@ no_anchors : ios_pattern_in (codes "65001") ≡ None
 unfolding ios_pattern_in parts_by cut_at runs_after set_at sets_in word_in set_in tail_in piece_in pieces_end between branch_in each_in
 no_anchors = refl
 
+spells_no_pattern : (bs : List IosBranch) → SpellsPattern (codes "65001") bs → ⊥
+spells_no_pattern bs h =
+    let e = sym no_anchors ∙ ios_pattern_only (codes "65001") bs h in
+    absurd cc
+
 class_repeated : ios_pattern_in (codes "^[3-5]+$") ≡ None
 unfolding ios_pattern_in parts_by cut_at runs_after set_at sets_in word_in set_in tail_in piece_in pieces_end between branch_in parts_at each_in
 class_repeated = refl
@@ -70,3 +76,23 @@ two_items_spelled = junos_pattern_found (codes "1? (2-3 | .){2,}") two_items two
 falling : junos_pattern_in (codes "5-4") ≡ None
 unfolding junos_pattern_in items_in items_of item_in count_in members_of member_in behind_blanks range_in number_in parts_at each_in
 falling = refl
+
+-- counts: `{m}`, `{m,n}`, and none above 255; tabs between items
+abbrev seven_times : ℕ → Option ℕ → TokenItem
+seven_times least most = record { set = record { ranges = record { least = 7; most = 7 } ∷ [] }; least = least; most = most }
+
+exactly : junos_pattern_in (codes "7{2}") ≡ Some (record { branches = record { items = seven_times 2 (Some 2) ∷ [] } ∷ [] })
+unfolding junos_pattern_in items_in items_of item_in count_in members_of member_in behind_blanks range_in number_in parts_at each_in
+exactly = refl
+
+from_to : junos_pattern_in (codes "7{2,3}") ≡ Some (record { branches = record { items = seven_times 2 (Some 3) ∷ [] } ∷ [] })
+unfolding junos_pattern_in items_in items_of item_in count_in members_of member_in behind_blanks range_in number_in parts_at each_in
+from_to = refl
+
+too_many : junos_pattern_in (codes "7{256}") ≡ None
+unfolding junos_pattern_in items_in items_of item_in count_in members_of member_in behind_blanks range_in number_in parts_at each_in
+too_many = refl
+
+by_a_tab : junos_pattern_in (55 ∷ 9 ∷ 55 ∷ []) ≡ Some (record { branches = record { items = seven_times 1 (Some 1) ∷ seven_times 1 (Some 1) ∷ [] } ∷ [] })
+unfolding junos_pattern_in items_in items_of item_in count_in members_of member_in behind_blanks range_in number_in parts_at each_in
+by_a_tab = refl

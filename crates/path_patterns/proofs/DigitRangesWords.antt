@@ -17,7 +17,8 @@ use Rattle.path_patterns.specs.declared.items.NumberRange.{NumberRange}
 use Rattle.path_patterns.specs.declared.pattern.DigitSet.{DigitSet}
 use Rattle.path_patterns.specs.declared.pattern.DigitWord.{DigitWord}
 use Rattle.path_patterns.specs.declared.pattern.DigitWord.TheVariants.{Any, Digits}
-use Rattle.path_patterns.proofs.MergedLaws.{in_ranges, joined_holds}
+use Rattle.path_patterns.proofs.MergedLaws.{in_ranges}
+use Rattle.path_patterns.proofs.RisingRanges.{rising_holds}
 use Rattle.path_patterns.proofs.DigitRangesJoined.{all_runs_hold, front_runs_hold}
 use Rattle.path_patterns.proofs.DigitRangesSpread.{spread_by_holds}
 
@@ -169,4 +170,4 @@ ranges_hold (w ∷ ws) n small =
 
 -- the set of words has just the numbers that one of them spells
 pub words_ranges : (ws : List DigitWord) (n : ℕ) → n < 2 ^ 32 → in_set (set_of_words ws) n ≡ words_hold ws n
-words_ranges ws n small = joined_holds (ranges_of_words ws) n ∙ ranges_hold ws n small
+words_ranges ws n small = rising_holds (ranges_of_words ws) n ∙ ranges_hold ws n small

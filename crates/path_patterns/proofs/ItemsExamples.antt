@@ -1,9 +1,12 @@
 -- Worked examples of items on paths that the checker computes.
-use Rattle.std.proofs.Common.{◌≡◌, refl, ℕ, true, false, List, [], ◌∷◌, Option, Some, None}
+use Rattle.std.proofs.Common.{◌≡◌, refl, sym, ℕ, true, false, List, [], ◌∷◌, Option, Some, None, map, inl, inr}
+use Rattle.std.proofs.lemmas.Bool.{true≢false}
 use Rattle.std.specs.Prelude.{◌==◌}
-use Rattle.path_patterns.specs.Items.{Takes, Taken}
-use Rattle.path_patterns.specs.Rows.{fits_along, start_row, exactly, spread, rows_behind, takes_all}
-use Rattle.path_patterns.proofs.RowLaws.{takes_decides}
+use Rattle.path_patterns.specs.Items.{Takes, Taken, takes_of, in_set, Matches}
+use Rattle.path_patterns.specs.Rows.{fits_along, start_row, exactly, spread, rows_behind, takes_all, pattern_takes}
+use Rattle.path_patterns.specs.declared.items.NumberSet.{NumberSet}
+use Rattle.path_patterns.specs.declared.items.TokenPattern.{TokenPattern}
+use Rattle.path_patterns.proofs.RowLaws.{takes_decides, pattern_decides}
 
 -- so many times one number, and so many of any
 abbrev only : ℕ → ℕ → Option ℕ → Takes
@@ -40,3 +43,29 @@ two = refl
 nothing : Taken [] []
 unfolding Taken
 nothing = refl
+
+-- the numbers 1 to 3, and 7
+abbrev few : NumberSet
+few = record { ranges = record { least = 1; most = 3 } ∷ record { least = 7; most = 7 } ∷ [] }
+
+is_in : in_set few 7 ≡ true
+is_in = refl
+
+is_between : in_set few 5 ≡ false
+is_between = refl
+
+-- a pattern of two branches: numbers of the set, one or more of them; or no number at all
+abbrev either : TokenPattern
+either = record { branches = record { items = record { set = few; least = 1; most = None } ∷ [] } ∷ record { items = [] } ∷ [] }
+
+takes_some : Matches either (7 ∷ 2 ∷ [])
+unfolding takes_all rows_behind fits_along start_row exactly spread
+takes_some = inl ((takes_decides (map takes_of (record { set = few; least = 1; most = None } ∷ [])) (7 ∷ 2 ∷ [])).0 refl)
+
+takes_no_other : Matches either (7 ∷ 5 ∷ []) → ⊥
+unfolding takes_all rows_behind fits_along start_row exactly spread pattern_takes
+takes_no_other h = true≢false (sym ((pattern_decides either (7 ∷ 5 ∷ [])).1 h))
+
+takes_the_empty : Matches either []
+unfolding Taken
+takes_the_empty = inr (inl refl)

@@ -18,9 +18,11 @@ pub mod CountLaws
 pub mod TakesLaws
 pub mod SamePaths
 pub mod MergedLaws
+pub mod RisingRanges
 pub mod JunosItemsLaws
 pub mod JunosAdds
 pub mod DigitSteps
+pub mod RangeCounts
 pub mod DigitRangesJoined
 pub mod DigitRangesSpread
 pub mod DigitRangesWords

@@ -15,7 +15,7 @@ use Rattle.text_words.specs.declared.memory.Memory.{Memory}
 -- ---- the order
 
 -- the first range, if there is one, begins above a number
-abbrev BeginsAbove : ℕ → List NumberRange → Type 0
+abbrev pub BeginsAbove : ℕ → List NumberRange → Type 0
 BeginsAbove n [] = Unit {0}
 BeginsAbove n (r ∷ rs) = n < r.least
 
@@ -28,7 +28,7 @@ unfolding joined_from
 begins_above n r [] l = l
 begins_above n r (s ∷ ss) l = begins_by n r s ss (touches r s) l (begins_above n (both_ranges r s) ss l)
 
-rising_front : (r : NumberRange) (rs : List NumberRange) → r.least ≤ r.most → BeginsAbove (r.most + 1) rs → AreRising rs → AreRising (r ∷ rs)
+pub rising_front : (r : NumberRange) (rs : List NumberRange) → r.least ≤ r.most → BeginsAbove (r.most + 1) rs → AreRising rs → AreRising (r ∷ rs)
 rising_front r [] own above more = own
 rising_front r (s ∷ ss) own above more = (own, above, more)
 
@@ -103,7 +103,7 @@ sorted_in_order rs ss moved sorted =
     (sym (list_any-IsPermutation (λ r. not (has_number r)) (filter has_number rs) ss moved) ∙ any-filter_same (λ r. not (has_number r)) has_number false (λ r e. not-true (has_number r) e) rs)
     sorted
 
-range_has : (r : NumberRange) (n : ℕ) → in_range r n ≡ true → has_number r ≡ true
+pub range_has : (r : NumberRange) (n : ℕ) → in_range r n ≡ true → has_number r ≡ true
 range_has r n e = grind arith
 
 -- and they hold the numbers of all the ranges

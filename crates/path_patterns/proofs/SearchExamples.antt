@@ -12,7 +12,8 @@ use Rattle.path_patterns.specs.declared.pattern.Piece.TheVariants.{Anything, Set
 use Rattle.path_patterns.specs.declared.pattern.DigitWord.{DigitWord}
 use Rattle.path_patterns.specs.declared.pattern.DigitWord.TheVariants.{Any, Digits}
 use Rattle.path_patterns.specs.declared.pattern.DigitSet.{DigitSet}
-use Rattle.path_patterns.specs.declared.pattern.Repeat.TheVariants.{Star}
+use Rattle.path_patterns.specs.declared.pattern.Repeat.{Repeat}
+use Rattle.path_patterns.specs.declared.pattern.Repeat.TheVariants.{Star, Plus, Maybe}
 
 -- the text of a path
 text_of_path : path_text (7 ∷ 8 ∷ []) ≡ codes "7 8"
@@ -87,3 +88,46 @@ not_empty_by_a_number = refl
 nothing_before : found_in (codes "65002") (Pieces (record { left = Anchor; pieces = Anything ∷ piece two ∷ []; right = Anchor }) ∷ []) ≡ true
 unfolding found_in anything_then pieces_then tails_then digits_then
 nothing_before = refl
+
+-- one number, by the bit of its digit
+abbrev seven : DigitWord
+seven = Digits (digit 128 ∷ [])
+
+abbrev eight : DigitWord
+eight = Digits (digit 256 ∷ [])
+
+-- `^7(_8)+$` and `^7(_8)?$`
+abbrev seven_then : Repeat → List IosBranch
+seven_then turns = Pieces (record { left = Anchor; pieces = Set (record { words = seven ∷ []; tails = record { words = eight ∷ []; repeat = turns } ∷ [] }) ∷ []; right = Anchor }) ∷ []
+
+twice_by_plus : found_in (codes "7 8 8") (seven_then Plus) ≡ true
+unfolding found_in anything_then pieces_then tails_then turns_then digits_then
+twice_by_plus = refl
+
+none_by_plus : found_in (codes "7") (seven_then Plus) ≡ false
+unfolding found_in anything_then pieces_then tails_then turns_then digits_then
+none_by_plus = refl
+
+none_by_maybe : found_in (codes "7") (seven_then Maybe) ≡ true
+unfolding found_in anything_then pieces_then tails_then turns_then digits_then
+none_by_maybe = refl
+
+twice_by_maybe : found_in (codes "7 8 8") (seven_then Maybe) ≡ false
+unfolding found_in anything_then pieces_then tails_then turns_then digits_then
+twice_by_maybe = refl
+
+-- `_(7|8)_` on a path of two
+abbrev either : List IosBranch
+either = Pieces (record { left = Under; pieces = Set (record { words = seven ∷ eight ∷ []; tails = [] }) ∷ []; right = Under }) ∷ []
+
+second_of_two : found_in (codes "1 8") either ≡ true
+unfolding found_in anything_then pieces_then tails_then digits_then
+second_of_two = refl
+
+first_of_two : found_in (codes "7 1") either ≡ true
+unfolding found_in anything_then pieces_then tails_then digits_then
+first_of_two = refl
+
+neither_of_two : found_in (codes "1 78") either ≡ false
+unfolding found_in anything_then pieces_then tails_then digits_then
+neither_of_two = refl

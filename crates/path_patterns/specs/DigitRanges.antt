@@ -3,7 +3,7 @@
 use Rattle.std.specs.Prelude.{ℕ, zero, suc, ◌+◌, ◌-◌, ◌*◌, true, false, ◌==◌, nat_le, min, List, [], ◌∷◌, ◌++◌}
 use Rattle.path_patterns.specs.Items.{greatest}
 use Rattle.path_patterns.specs.PathItems.{has_digit}
-use Rattle.path_patterns.specs.MergedRanges.{joined}
+use Rattle.path_patterns.specs.MergedRanges.{joined, rising}
 use Rattle.path_patterns.specs.declared.items.NumberRange.{NumberRange}
 use Rattle.path_patterns.specs.declared.items.NumberSet.{NumberSet}
 use Rattle.path_patterns.specs.declared.pattern.DigitWord.{DigitWord}
@@ -84,6 +84,6 @@ unfoldable pub ranges_of_words : List DigitWord → List NumberRange
 ranges_of_words [] = []
 ranges_of_words (w ∷ ws) = word_ranges w ++ ranges_of_words ws
 
--- the numbers that one of the words spells
+-- the numbers that one of the words spells, in rising ranges: words that spell the same numbers have one set
 abbrev pub set_of_words : List DigitWord → NumberSet
-set_of_words ws = record { ranges = joined (ranges_of_words ws) }
+set_of_words ws = record { ranges = rising (ranges_of_words ws) }

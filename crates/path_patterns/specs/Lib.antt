@@ -6,6 +6,7 @@ pub mod DigitRanges
 pub mod Counts
 pub mod SameTakes
 pub mod TokenForm
+pub mod RangeCounts
 pub mod RangeWords
 pub mod Rows
 pub mod Finds

@@ -1,5 +1,5 @@
 -- Ranges joined where they overlap or touch, and the ranges of a set in rising order.
-use Rattle.std.specs.Prelude.{◌+◌, ◌<◌, ◌≤◌, Bool, true, false, ◌&&◌, nat_le, nat_lt, max, List, [], ◌∷◌}
+use Rattle.std.specs.Prelude.{◌+◌, ◌<◌, ◌≤◌, Bool, true, false, ◌&&◌, nat_le, nat_lt, min, max, List, [], ◌∷◌}
 use Rattle.path_patterns.specs.Items.{greatest}
 use Rattle.path_patterns.specs.declared.items.NumberRange.{NumberRange}
 
@@ -40,3 +40,23 @@ joined_from r (s ∷ ss) = elim (touches r s) [ true ↦ joined_from (both_range
 abbrev pub joined : List NumberRange → List NumberRange
 joined [] = []
 joined (r ∷ rs) = joined_from r rs
+
+-- ---- one form for each set of numbers
+
+-- the second range begins behind the first one, and a number of neither lies between them
+abbrev pub is_apart : NumberRange → NumberRange → Bool
+is_apart r s = nat_lt (r.most + 1) s.least
+
+-- from the lesser of two least numbers to the greater end
+abbrev pub hull : NumberRange → NumberRange → NumberRange
+hull r s = record { least = min r.least s.least; most = max r.most s.most }
+
+-- a range among rising ones, one with those that it meets
+unfoldable pub put : NumberRange → List NumberRange → List NumberRange
+put r [] = r ∷ []
+put r (s ∷ ss) = elim (is_apart r s) [ true ↦ r ∷ s ∷ ss | false ↦ elim (is_apart s r) [ true ↦ s ∷ put r ss | false ↦ put (hull r s) ss ] ]
+
+-- the ranges that have a number, in rising order, and one where they meet
+unfoldable pub rising : List NumberRange → List NumberRange
+rising [] = []
+rising (r ∷ rs) = elim (has_number r) [ true ↦ put r (rising rs) | false ↦ rising rs ]

@@ -3,7 +3,7 @@ ghost use Rattle.path_patterns.specs.DigitRanges.{within, chosen, runs, one_spre
 ghost use Rattle.path_patterns.specs.MergedRanges.{joined};
 
 use crate::items::{NumberRange, NumberSet};
-use crate::merged::joined;
+use crate::merged::{joined, merged};
 use crate::pattern::{DigitSet, DigitWord};
 use route_types::{Memory, Row};
 use std::alloc::Global;
@@ -40,7 +40,11 @@ fn push_digit(out: &mut Vec<NumberRange>, set: &DigitSet, digit: u8) -> Result<(
 }
 
 #[tactic(auto, unfolding(crate::specs::DigitRanges::chosen))]
-fn chosen(alloc: Global, set: &DigitSet, digits: &[u8]) -> Result<Vec<NumberRange>, Memory>
+pub(crate) fn chosen(
+    alloc: Global,
+    set: &DigitSet,
+    digits: &[u8],
+) -> Result<Vec<NumberRange>, Memory>
     ensures { IfOk result (λ found. found.items ≡ chosen set.now digits.now) }
 {
     let mut found = Vec::new(alloc);
@@ -53,7 +57,7 @@ fn chosen(alloc: Global, set: &DigitSet, digits: &[u8]) -> Result<Vec<NumberRang
 }
 
 // The runs of digits of a set: of all digits, or of those but 0.
-fn runs(alloc: Global, set: &DigitSet, digits: &[u8]) -> Result<Row<NumberRange>, Memory>
+pub(crate) fn runs(alloc: Global, set: &DigitSet, digits: &[u8]) -> Result<Row<NumberRange>, Memory>
     ensures { IfOk result (λ found. found ≡ runs set.now digits.now) }
 {
     let digits = chosen(alloc, set, digits)?;
@@ -164,7 +168,7 @@ fn spread(
 }
 
 // The digits of the set that may stand before digits of the others.
-fn first_runs(
+pub(crate) fn first_runs(
     alloc: Global,
     set: &DigitSet,
     others: &[DigitSet],
@@ -223,7 +227,10 @@ pub(crate) fn set_of_words(alloc: Global, words: &[DigitWord]) -> Result<NumberS
     ensures { IfOk result (λ set. set ≡ set_of_words words.now) }
 {
     let ranges = ranges_of_words(alloc, words)?;
+    let set = NumberSet {
+        ranges: Row::from_vec(ranges),
+    };
     Ok(NumberSet {
-        ranges: joined(alloc, ranges.as_slice())?,
+        ranges: merged(alloc, &set)?,
     })
 }

@@ -21,6 +21,7 @@ mod laws;
 mod merged;
 mod pattern;
 mod piece_rows;
+mod range_counts;
 mod range_words;
 mod row_steps;
 mod rows;

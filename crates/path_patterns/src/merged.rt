@@ -2,7 +2,7 @@
 ghost use Rattle.std.specs.Prelude.{◌≡◌, ◌++◌, ◌∷◌, [], ℕ, false, IfOk, OnOk, filter};
 ghost use Rattle.std.specs.List.{list_any};
 ghost use Rattle.path_patterns.specs.Items.{in_range, in_set};
-ghost use Rattle.path_patterns.specs.MergedRanges.{AreRising, AreInOrder, has_number, is_wide, touches, both_ranges, joined_from, joined};
+ghost use Rattle.path_patterns.specs.MergedRanges.{AreRising, AreInOrder, has_number, is_wide, touches, both_ranges, joined_from, joined, rising};
 
 use crate::items::{NumberRange, NumberSet};
 use route_types::{Memory, Row};
@@ -95,6 +95,7 @@ pub(crate) fn joined(alloc: Global, ranges: &[NumberRange]) -> Result<Row<Number
 /// The ranges of a set in rising order, without empty ones, joined where they overlap or touch. Its one
 /// error is want of memory.
 pub(crate) fn merged(alloc: Global, set: &NumberSet) -> Result<Row<NumberRange>, Memory>
+    ensures exact { IfOk result (λ rs. rs ≡ rising set.now.ranges) }
     ensures same { IfOk result (λ rs. AreRising rs × ((n : ℕ) → list_any (λ r. in_range r n) rs ≡ in_set set.now n)) }
     ensures bounded { IfOk result (λ rs. list_any is_wide rs ≡ false) }
 {

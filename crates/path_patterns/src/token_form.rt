@@ -1,7 +1,8 @@
-ghost use Rattle.std.specs.Prelude.{◌≡◌, IfOk, List, ℕ, [], ◌∷◌, ◌++◌, ◌↔◌, map};
+ghost use Rattle.std.specs.Prelude.{◌≡◌, true, IfOk, List, ℕ, [], ◌∷◌, ◌++◌, ◌↔◌, map};
 ghost use Rattle.path_patterns.specs.Finds.{finds_in};
 ghost use Rattle.path_patterns.specs.Items.{IsPath, Matches};
 ghost use Rattle.path_patterns.specs.PathMatches.{path_matches};
+ghost use Rattle.path_patterns.specs.RangeCounts.{few_in_pattern};
 ghost use Rattle.path_patterns.specs.Search.{Found};
 ghost use Rattle.path_patterns.specs.TokenForm.{all_numbers, any_item, set_item, tail_item, later_items, pieces_items, mark_items, branch_items, branches_items, token_form};
 ghost use Rattle.path_patterns.specs.DigitRanges.{set_of_words};
@@ -10,17 +11,23 @@ ghost use Rattle.path_patterns.specs.declared.pattern.Piece.TheVariants.{Anythin
 use crate::digit_ranges::set_of_words;
 use crate::items::{NumberRange, NumberSet, TokenBranch, TokenItem, TokenPattern};
 use crate::pattern::{DigitWord, IosBranch, IosPattern, Mark, PathPieces, Piece, PieceSet, Tail};
+use crate::range_counts::few_in_pattern;
 use route_types::{Memory, Row};
 use std::alloc::Global;
 
-/// The items that match a path exactly where the pattern is found in its text. Its one error is want of
-/// memory.
+/// The items that match a path exactly where the pattern is found in its text. The ranges of each set rise and lie
+/// apart, so that equal sets are written alike. Its one error is want of memory: it comes without anything taken where
+/// some set of words makes more than 1,048,576 ranges, as they are counted from the digits.
 #[tactic(auto, using(crate::proofs::TokensFound::tokens_found, crate::proofs::PathMatches::tokens_match))]
 pub fn tokens(alloc: Global, pattern: &IosPattern) -> Result<TokenPattern, Memory>
     ensures form { IfOk result (λ t. t ≡ token_form pattern.now) }
     ensures found { IfOk result (λ t. (path : List ℕ) → IsPath path → Matches t path ↔ Found pattern.now path) }
     ensures exact { IfOk result (λ t. (path : List ℕ) → IsPath path → path_matches t path ≡ finds_in pattern.now path) }
+    ensures few { IfOk result (λ _. few_in_pattern pattern.now ≡ true) }
 {
+    if !few_in_pattern(alloc, pattern.branches())? {
+        return Err(Memory);
+    }
     token_form(alloc, pattern.branches())
 }
 

@@ -28,7 +28,7 @@ pub(crate) fn set_name(
     requires { place < 2 ^ 63 }
     ensures { IfOk result (λ text. text ≡ set_name name.now letter.now place) }
 {
-    let mut text = Vec::with_capacity(alloc, name.len() + letter.len() + 5)?;
+    let mut text = Vec::with_capacity(alloc, name.len().saturating_add(8))?;
     text.extend_from_slice(name)?;
     text.extend_from_slice(letter)?;
     push_number(&mut text, place as u64 + 1)?;

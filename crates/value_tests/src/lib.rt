@@ -16,7 +16,7 @@ mod junos_cut;
 #[cfg(test)]
 mod path_items;
 #[cfg(test)]
-mod path_patterns;
+mod pattern_texts;
 #[cfg(test)]
 mod prefix_ranges;
 #[cfg(test)]

@@ -219,3 +219,42 @@ fn ios_as_it_was(rt: HostRuntime) -> Result<(), PatternFault> {
     }
     Ok(())
 }
+
+/// Patterns whose words make very many ranges, a path in which they are found, and one in which they are not.
+const HOSTILE: &[(&[u8], &[u32], &[u32])] = &[
+    (
+        b"^[13579][13579][13579][13579][13579][13579][13579][13579][13579][13579]$",
+        &[1357913579],
+        &[1357913578],
+    ),
+    (
+        b"_[0-9][0-9][0-9][0-9][0-9][0-9][0-9][0-9][0-9][02468]_",
+        &[7, 4294967294],
+        &[4294967295, 7],
+    ),
+];
+
+#[test]
+fn patterns_of_too_many_ranges(rt: HostRuntime) -> Result<(), PatternFault> {
+    for (text, found, lost) in HOSTILE {
+        let pattern = read_ios_pattern(rt.alloc(), text)?;
+        assert!(rt; tokens(rt.alloc(), &pattern).is_err(), "{text:?}");
+        assert!(rt; finds(rt.alloc(), &pattern, found)?, "{text:?}");
+        assert!(rt; !finds(rt.alloc(), &pattern, lost)?, "{text:?}");
+    }
+    Ok(())
+}
+
+#[test]
+fn equal_sets_have_one_form(rt: HostRuntime) -> Result<(), PatternFault> {
+    let rows: [(&[u8], &[u8]); 2] = [
+        (b"^(7|12|[5-9])$", b"^([5-9]|12)$"),
+        (b"_([13]|[24])_", b"_[1-4]_"),
+    ];
+    for (text, other) in rows {
+        let first = tokens(rt.alloc(), &read_ios_pattern(rt.alloc(), text)?)?;
+        let second = tokens(rt.alloc(), &read_ios_pattern(rt.alloc(), other)?)?;
+        assert!(rt; first == second, "{text:?}");
+    }
+    Ok(())
+}
