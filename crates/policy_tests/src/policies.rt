@@ -84,6 +84,17 @@ fn policies(rt: HostRuntime) -> Result<(), Fail> {
     Ok(())
 }
 
+/// The policy is judged at once, and translation answers want of memory before it makes the ranges.
+#[test]
+fn patterns_of_many_ranges(rt: HostRuntime) -> Result<(), Fail> {
+    judged(&rt, path_lists::MANY_RANGES)?;
+    for (source, _) in path_lists::MANY_RANGES {
+        let texts = [("in.cfg", *source)];
+        shows(&rt, &unfailing(TRANSLATE, &texts), (9, "", "out of memory"))?;
+    }
+    Ok(())
+}
+
 /// RPL can say the policy, and translation takes it.
 fn is_translated(policy: &str) -> bool {
     !policy.contains(" exact-match")

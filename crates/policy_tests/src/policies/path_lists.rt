@@ -85,19 +85,20 @@ route-map IN permit 10
             (&["as-path 650010"], Reject),
         ],
     ),
-    // patterns whose digits make millions of ranges of numbers are asked digit by digit
-    (
-        "\
+];
+
+/// Patterns whose digits make millions of ranges of numbers: judge asks them digit by digit, translate answers want of memory.
+pub const MANY_RANGES: &[Policy] = &[(
+    "\
 ip as-path access-list 1 permit ^[13579][13579][13579][13579][13579][13579][13579][13579][13579][13579]$
 ip as-path access-list 1 permit ^[0-9][0-9][0-9][0-9][0-9][0-9][0-9][0-9][0-9][02468]_7$
 route-map IN permit 10
  match as-path 1
 ",
-        &[
-            (&["as-path 1357913579"], Accept(&[])),
-            (&["as-path 1357913578"], Reject),
-            (&["as-path 4294967294 7"], Accept(&[])),
-            (&["as-path 4294967295 7"], Reject),
-        ],
-    ),
-];
+    &[
+        (&["as-path 1357913579"], Accept(&[])),
+        (&["as-path 1357913578"], Reject),
+        (&["as-path 4294967294 7"], Accept(&[])),
+        (&["as-path 4294967295 7"], Reject),
+    ],
+)];
