@@ -3,7 +3,7 @@ use route_types::{Address, Duplicate, Memory, Origin, Rect, Row};
 use std::alloc::Global;
 
 /// What one condition of a `from` asks of a route, with what it names written out.
-#[derive(Debug, Drop)]
+#[derive(Debug, PartialEq, Eq, Hash, Drop)]
 pub enum PlannedCondition {
     /// Nothing: it holds for every route, and nothing is written.
     Anything,
@@ -24,7 +24,7 @@ pub enum PlannedCondition {
 }
 
 /// A term of a list: it accepts or rejects where its condition holds.
-#[derive(Debug, Drop)]
+#[derive(Debug, PartialEq, Eq, Hash, Drop)]
 pub struct PlannedEntry {
     pub permit: bool,
     pub condition: PlannedCondition,
@@ -32,13 +32,13 @@ pub struct PlannedEntry {
 
 /// A list as a subroutine: the first term whose condition holds accepts or rejects, and the last one, which has no
 /// condition, rejects.
-#[derive(Debug, Drop)]
+#[derive(Debug, PartialEq, Eq, Hash, Drop)]
 pub struct PlannedList {
     pub entries: Row<PlannedEntry>,
 }
 
 /// What a literal asks.
-#[derive(Debug, Drop)]
+#[derive(Debug, PartialEq, Eq, Hash, Drop)]
 pub enum PlannedTest {
     /// A condition that a `from` says directly.
     Asked(PlannedCondition),
@@ -78,6 +78,38 @@ impl Duplicate for PlannedCondition {
                 Ok(PlannedCondition::LocalPreference(*number))
             }
             PlannedCondition::Origin(origin) => Ok(PlannedCondition::Origin(*origin)),
+        }
+    }
+}
+
+impl Duplicate for PlannedEntry {
+    fn duplicate(&self, alloc: Global) -> Result<PlannedEntry, Memory> {
+        let condition = self.condition.duplicate(alloc)?;
+        Ok(PlannedEntry {
+            permit: self.permit,
+            condition,
+        })
+    }
+}
+
+impl Duplicate for PlannedList {
+    fn duplicate(&self, alloc: Global) -> Result<PlannedList, Memory> {
+        let entries = self.entries.duplicate(alloc)?;
+        Ok(PlannedList { entries })
+    }
+}
+
+impl Duplicate for PlannedTest {
+    fn duplicate(&self, alloc: Global) -> Result<PlannedTest, Memory> {
+        match self {
+            PlannedTest::Asked(condition) => {
+                let copied = condition.duplicate(alloc)?;
+                Ok(PlannedTest::Asked(copied))
+            }
+            PlannedTest::Listed(lists) => {
+                let copied = lists.duplicate(alloc)?;
+                Ok(PlannedTest::Listed(copied))
+            }
         }
     }
 }

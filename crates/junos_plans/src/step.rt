@@ -1,9 +1,10 @@
 use crate::changes::PlannedChanges;
 use crate::condition::{PlannedCondition, PlannedTest};
-use route_types::Row;
+use route_types::{Duplicate, Memory, Row};
+use std::alloc::Global;
 
 /// What is asked of a route, and the answer that is wanted.
-#[derive(Debug, Drop)]
+#[derive(Debug, PartialEq, Eq, Hash, Drop)]
 pub struct PlannedLiteral {
     pub test: PlannedTest,
     pub wanted: bool,
@@ -22,4 +23,14 @@ pub struct PlannedStep {
     pub guard: PlannedGuard,
     pub changes: PlannedChanges,
     pub accept: bool,
+}
+
+impl Duplicate for PlannedLiteral {
+    fn duplicate(&self, alloc: Global) -> Result<PlannedLiteral, Memory> {
+        let test = self.test.duplicate(alloc)?;
+        Ok(PlannedLiteral {
+            test,
+            wanted: self.wanted,
+        })
+    }
 }

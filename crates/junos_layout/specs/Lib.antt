@@ -1,0 +1,7 @@
+pub mod Writing
+pub mod Terms
+pub mod Actions
+pub mod Options
+pub mod Uses
+pub mod Answers
+pub mod Sharing
