@@ -1,0 +1,13 @@
+pub mod Noted
+pub mod Places
+pub mod Made
+pub mod Rows
+pub mod Literals
+pub mod Numbered
+pub mod Same
+pub mod Found
+pub mod Every
+pub mod Fitting
+pub mod Naming
+pub mod Whole
+pub mod Plan

@@ -1,0 +1,10 @@
+use Rattle.std.proofs.Common.{◌≡◌, length}
+use Rattle.std.specs.List.{flat_map}
+use Rattle.junos_policies.specs.Noting.{noted_all}
+use Rattle.junos_policies.proofs.sets.note_each.Given as goal
+
+abbrev pub invariant-loop-rest : goal.invariant-loop-rest
+invariant-loop-rest g l = noted_all g.T.PartialEq.eq l.set.keys (flat_map g.U.Uses.uses l.rest) ≡ noted_all g.T.PartialEq.eq l.fn.set.keys (flat_map g.U.Uses.uses l.items)
+
+abbrev pub decreases-loop-rest : goal.decreases-loop-rest
+decreases-loop-rest g l = length l.rest
